@@ -9,7 +9,8 @@ MARK = "q"  # begins each harmless text, and stands in no URL that a template wr
 
 # What texts of templates say, by the kind of context: each leads from a context of the kind to one of it, as does a hole. `open` is
 # behind a value at the beginning of a URL, and `note` is in a comment. In an event handler `script` is between statements, where a hole has
-# a statement around it, `quoted` in a string, `pattern` in a regular expression and `aside` in a comment.
+# a statement around it, `quoted` in a string, `pattern` in a regular expression and `aside` in a comment; in an element `script`, where
+# there are no references, these are `code`, `literal`, `expression` and `remains`.
 WORDS = ["a b ", "x &amp; y", "R&", "&am", "&lt", "&#106;ava", "&#x", "1 < 2 > 1 ", "javascript", "vbscript:", " data", "%3",
          "\u00e9\u2028", "\n"]
 TEXTS = {
@@ -38,9 +39,16 @@ STATEMENTS = ["f(@);", "f(@);", "x = @;", "x = [@, 1];", "x = {a: @};", "if (@) 
               "x = typeof@;", "a&lt;@;", "x = y ? @ : @;", "x = a[@];", "x = @.length;", "f(@, &#39;@&#39;, /@/);", "return @;",
               "f(a, &#34;@&#34;);", "x = (@);", "switch (a) { case@: f(); };", "for (x in @) { f(x); };", "x = !@;", "x = @ + @;",
               "x = a+@+b;", "x = a &amp;&amp; @;", "\nf(@) // a\n;", "x = /@/.test(@);", "x = f in@;", "throw@;"]
+# The same in an element `script`.
+TEXTS |= {its: [html.unescape(text) for text in TEXTS[kind]] for kind, its in
+          [("script", "code"), ("quoted", "literal"), ("pattern", "expression")]}
+TEXTS["literal"] += ["</script>", "</SCRIPT ", "<script ", "\\<!--", "</scr", "<!-", "<!", "\\\\</script/", "<b>", "</"]
+TEXTS["expression"] += ["<script", "<!--", "(<\\/script>)", "[</]script>"]
+TEXTS["remains"] = ["a", " ", "* ", "'", "/ ", "`", "</scripts>", "\u00e9", "<!--", "<script>"]
+ELEMENT_STATEMENTS = [html.unescape(text) for text in STATEMENTS]
 # Kinds of templates that others call.
 KINDS = ["text", "text", "plain", "plain", "note", "attributes", "open", "path", "query", "style", "string", "script", "script", "quoted",
-         "pattern"]
+         "pattern", "code", "code", "literal", "expression"]
 
 ELEMENTS = ["p", "a", "b", "td", "LI", "form", "object", "x-y", "svg", "img", "blockquote", "h1"]
 PLAIN_NAMES = ["title", "class", "alt", "Value", "data-x", "content", "type", "hidden", "aria-label"]
@@ -57,7 +65,9 @@ LETTERS = ["java", "javascript", "vbscript", "d", "data", "x", "&#106;ava", "jav
 
 # What may be refused, by the kind of context. In a template `$` is what it is called with, and so always has all the keys.
 MAY_BE_REFUSED = {
-    "text": ['<p {{if $.t}}class="x{{end}}>', "<script>{{$.a}}</script>", '<p onclick="f(`{{$.a}}`)">', '<p style="x:{{$.a}}(">',
+    "text": ['<p {{if $.t}}class="x{{end}}>', "<script>{{$.a}}{{$.b}}/c/</script>",
+             "<script>f('{{$.a}}</script>", "<script>x = 1;{{if $.t}}</script>{{end}}",
+             '<p onclick="f(`{{$.a}}`)">', '<p style="x:{{$.a}}(">',
              "<h{{$.n}}>",
              "<!--{{$.a}}-->", '<a href="javascript:{{$.a}}">', '<a href="{{$.a}}:x">', "<a href=x{{$.a}}&#58;y>", '<a href="/%4{{$.a}}">',
              '<a href="/a{{if $.t}}?{{end}}{{$.b}}">', '{{template "none" .}}', '<iframe srcdoc="{{$.a}}"></iframe>', "<b x={{$.a}}=1>",
@@ -88,11 +98,22 @@ MAY_BE_REFUSED = {
     "aside": ["*", "*/", "{{html $.a}}"],
     "pattern": ["\\{{$.a}}", "[{{$.a}}]", "{{urlquery $.a}}", "&#10;", "\\{{if $.t}}d{{end}}", "[a{{if $.t}}b{{end}}]", "&copy;"],
 }
+MAY_BE_REFUSED |= {its: [html.unescape(text) for text in MAY_BE_REFUSED[kind]] for kind, its in
+                   [("script", "code"), ("quoted", "literal"), ("pattern", "expression"), ("aside", "remains")]}
+MAY_BE_REFUSED["code"] += ["</scr{{if $.t}}{{end}}ipt>", "x = a<{{$.a}};", "x <{{if $.t}}a{{end}}/b/;", "<!{{if $.t}}{{end}}-- a",
+                           "{{if $.t}}</script>{{end}}",
+                           "f('\n');", "/* {{$.a}} </script {{$.b}}>"]
 
 # Texts of the element `style` that are nearly its end tag, a comment of HTML, or a reference.
 ELEMENT_STYLES = [" </b> ", " '</styl' ", ' "</stylex>" ', " <!-- a --> ", " /* </styl> */ ", " a < b ", " /* < */ ", " url('</sty') ",
                   " &#34; ",
                   " .a > b { ", "} ", " /* a */.b ", "</styl e>", " '&lt;/style>' ", " \\</styl ", " a/* * */b"]
+
+# Texts of the element `script` with comments of more than one line, and with what is nearly its end tag or a comment of HTML.
+ELEMENT_SCRIPTS = [" </b/.test(a);", " '</scrip' ;", ' f("</scriptx>");', " f('<!-- a -->');", " /* </scrip> */ ", " a < b;",
+                   " x = `</script>`;", " /* < */ ", "\n/* a\nb */ c\n", " // d\u2028f();", " // <!--\n", " x = a/* * */b;",
+                   " f('\\</script>');", " x = /<script/.test(y);", " x = `<${ '</script>' }`;", " 'a' /* */ + 'b';", " x = y</* a */b/2;",
+                   "\r\n// </script1>\r\n", " f(a /**/ / 2);", " &#34; "]
 
 # Texts of styles in which CSS reads otherwise than the program, as `docs/STYLES.md` says.
 STYLE_LIMITS = [" #url(", " @url(", " \\url(", " u\\rl(", " \\75 rl(", " ur\\6c (", " <!--url("]
@@ -196,7 +217,8 @@ class SetMaker:
         escaper = {"text": "html", "plain": "html", "query": "urlquery"}.get(kind)
         named = f" | {escaper}" if escaper and self.source.random() < 0.05 else ""
         hole = f"{{{{{value}{named}}}}}" + (" " if kind == "attributes" else "")
-        return self.source.choice(STATEMENTS).replace("@", hole) if kind == "script" else hole
+        statements = {"script": STATEMENTS, "code": ELEMENT_STATEMENTS}.get(kind, ["@"])
+        return self.source.choice(statements).replace("@", hole)
 
     def element(self, depth, is_record):
         plain = lambda kind="plain": self.pieces(kind, depth, is_record)
@@ -211,6 +233,9 @@ class SetMaker:
             lambda: f"<style>{self.style_content(depth, is_record)}</style>",
             lambda: f"<style>{self.style_content(depth, is_record)}</STYLE >",
             lambda: f"<STYLE {self.attribute(depth, is_record)}>{self.style_content(depth, is_record)}</style\n>",
+            lambda: f"<script>{self.script_content(depth, is_record)}</script>",
+            lambda: f'<script type="module">{self.script_content(depth, is_record)}</SCRIPT >',
+            lambda: f"<SCRIPT {self.attribute(depth, is_record)}>{self.script_content(depth, is_record)}</script\n>",
         ])()
 
     def attribute(self, depth, is_record):
@@ -269,6 +294,21 @@ class SetMaker:
             parts.append(html.unescape(self.style('"', depth, is_record).replace("&lt;", "&lt; ")))
             parts.append(self.source.choice(ELEMENT_STYLES + [" "] * 8))
         return "".join(parts)
+
+    def script_content(self, depth, is_record):
+        """The content of an element `script`."""
+        more = lambda kind: self.pieces(kind, depth, is_record)
+        mark = self.source.choice("'\"")
+        condition = self.condition("." if is_record else "$.")
+        parts = [
+            lambda: more("code"), lambda: more("code"), lambda: f"f({mark}{more('literal')}{mark});",
+            lambda: f" x = /a{more('expression')}/.test(y);", lambda: f" /* {more('remains')} */", lambda: f" // {more('remains')}\n",
+            lambda: self.hole("code", is_record),
+            lambda: f"g({{{{if {condition}}}}}1{{{{else}}}}a{{{{end}}}}, 2);", lambda: f" x = [{{{{range $.l}}}}{{{{.}}}}, {{{{end}}}}1]; ",
+            lambda: f"f({mark}<{self.hole('literal', is_record)}/script>{mark});",
+            lambda: f"f({mark}</scr{self.hole('literal', is_record)}ipt>{mark});",
+        ] + [lambda: self.source.choice(ELEMENT_SCRIPTS)] * 4
+        return "".join(self.source.choice(parts)() for _ in range(self.source.randint(1, 4)))
 
     def begun(self, depth, is_record):
         """A value without quotes, which begins in its first piece."""

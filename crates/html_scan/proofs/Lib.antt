@@ -2,12 +2,15 @@ pub mod FedRuns
 pub mod FedTexts
 pub mod Lowered
 pub mod PendingNames
+pub mod ScriptBacks
 pub mod ScriptCauses
 pub mod ScriptCounts
+pub mod ScriptElements
 pub mod ScriptEnds
 pub mod ScriptErrors
 pub mod ScriptReading
 pub mod ScriptStandings
+pub mod ScriptWords
 pub mod ScriptsFed
 pub mod Shortened
 pub mod ShownElsewhere

@@ -2,13 +2,13 @@
 use Rattle.std.proofs.Common.{◌≡◌, ℕ, ◌+◌, ◌≤◌, ◌<◌, Bool, true, false, not, codes, List, [], ◌∷◌, ◌++◌, length, refl, sym, ◌∙◌, arith, if◌then◌else◌}
 use Rattle.std.specs.Prelude.{get_or, Option, Some, None}
 use Rattle.css_step.specs.StyleScans.{StyleScan, is_style_start, style_scan_place, style_scan_start}
-use Rattle.js_step.specs.ScriptScans.{script_scan_start}
+use Rattle.js_step.specs.ScriptScans.{ScriptScan, script_scan_start}
 use Rattle.place_core.specs.page.Classes.{Class, White, ExclamationMark, QuotationMark, Apostrophe, HyphenMinus, Solidus, LessThan, EqualsSign, GreaterThan, Letter, class_of}
 use Rattle.place_core.specs.page.Comments.{Declaration, OpensNothing, closes_comment, declared_by, next_comment}
-use Rattle.place_core.specs.page.Contents.{is_name_of, may_be_name_of}
+use Rattle.place_core.specs.page.Contents.{ScriptStep, Reads, EndsContent, is_name_of, may_be_name_of}
 use Rattle.place_core.specs.page.Html.{ends_value}
 use Rattle.place_core.specs.page.References.{Reference, Closed, Open, next_reference}
-use Rattle.place_core.specs.page.States.{CommentState, Inside, Broken, Pending, Nothing, PendingLess, LessAtCut, PendingName, PendingBang, PendingBangDash}
+use Rattle.place_core.specs.page.States.{CommentState, Inside, Broken, Pending, Nothing, PendingLess, LessAtCut, PendingName, PendingBang, PendingBangDash, PendingOpening}
 use Rattle.place_core.specs.page.Tags.{Value, ValueState, Quoting, Unquoted, element_on, feed_bytes, tag_of_name, value_start}
 use Rattle.place_core.specs.page.Words.{kind_of}
 use Rattle.place_core.specs.place.Errors.{FedByte, fed_places, first_places, places_with}
@@ -28,10 +28,10 @@ use Rattle.place_core.specs.declared.tag_of.TagOf.TheVariants as tag
 use Rattle.place_core.specs.declared.tag_place.TagPlace.{TagPlace}
 use Rattle.place_core.specs.declared.value_place.ValuePlace.{ValuePlace}
 use Rattle.url_lexer.specs.Triples.{Triple, NoTriple, AfterPercent, AfterDigit}
-use Rattle.html_scan.specs.Scans.{Scan, At, AfterLess, AfterLessSolidus, InDeclaration, InTagName, InAttributeName, InCommentEnd, InContentEnd, InStyleElement, InUrl, InStyle, InScript, BeforeType, InType}
+use Rattle.html_scan.specs.Scans.{Scan, At, AfterLess, AfterLessSolidus, InDeclaration, InTagName, InAttributeName, InCommentEnd, InContentEnd, InStyleElement, InScriptElement, InUrl, InStyle, InScript, BeforeType, InType}
 use Rattle.html_scan.specs.Scans.{after_type, attribute_name_next, bang_next, bare_begun, bare_leads, bare_white, before_type_next, begun_script_fed, body_scan, comment_closed, comment_next, comment_scan, comment_state, content_end_next, content_next, content_scan, declaration_next, doctype_next}
 use Rattle.html_scan.specs.Scans.{element_less_next, element_name_next, element_next, element_pending_next, element_scan, empty_script_between, end_name_next, ended_type, less_next, pending_less_next, place_next, quoted_places, quotes_lead, scan_deep_behind, scan_fed_behind, scan_next, scan_script_cut_refusal, scan_script_refusal, script_fed_next, solidus_next}
-use Rattle.html_scan.specs.Scans.{style_fed, style_feeding, style_scan, tag_name_next, tag_next, text_scan, type_begun, type_next, type_tag, url_scan, value_between, value_fed, value_next, value_scan, with_style}
+use Rattle.html_scan.specs.Scans.{behind_end_name, scan_by_step, script_scan_step, style_fed, style_feeding, style_scan, tag_name_next, tag_next, text_scan, type_begun, type_next, type_tag, url_scan, value_between, value_fed, value_next, value_scan, with_style}
 use Rattle.html_scan.specs.ScriptPlaces.{ReadsScript, ScriptReads, begins_behind, fed_of, has_begun, is_script_body, places_from, reference_behind}
 use Rattle.html_scan.specs.Slices.{pending}
 use Rattle.html_scan.proofs.FedTexts.{behind_last_byte, fed_last_byte}
@@ -227,6 +227,16 @@ free_element_pending s (PendingName letters) c b =
     free_element_name s (may_be_name_of element.Style (letters ++ b ∷ [])) (is_name_of element.Style letters) c b letters
 free_element_pending s PendingBang c b = free_element (feed_bytes style_feeding s (codes "<!")) c b
 free_element_pending s PendingBangDash c b = free_element (feed_bytes style_feeding s (codes "<!-")) c b
+free_element_pending s (PendingOpening letters) c b = free_element (feed_bytes style_feeding s (codes "<" ++ letters)) c b
+
+free_end_tag : (c : Class) → is_free (behind_end_name c) ≡ true
+free_end_tag White = refl
+free_end_tag Solidus = refl
+free_end_tag _ = refl
+
+free_step : (n : ScriptScan) (s : ScriptStep) (c : Class) → is_free (scan_by_step n s c) ≡ true
+free_step n (Reads bytes h) c = refl
+free_step n (EndsContent letters) c = free_end_tag c
 
 free_before_type : (c : Class) (b : ℕ) (t : TagOf) → is_free (before_type_next c b t) ≡ true
 free_before_type GreaterThan b t = free_after_tag (type_tag t type_begun)
@@ -320,7 +330,8 @@ place_reads text k begins (place.Rcdata x) places c b i here e = free_reads text
 place_reads text k begins (place.Tag t) places c b i here e = free_reads text k (k + 1) _ _ (free_tag t c b)
 place_reads text k begins (place.Block lt) places c b i here e = free_reads text k (k + 1) _ _ (free_content c element.DataBlock)
 place_reads text k begins (place.Style s) places c b i here e = free_reads text k (k + 1) _ _ (free_element (style_scan_start s) c b)
-place_reads text k begins (place.Script j) places c b i here e = tt
+place_reads text k begins (place.Script j) places c b i here e =
+    free_reads text k (k + 1) _ _ (free_step (script_scan_start j) (script_scan_step (script_scan_start j) Nothing c b) c)
 
 not-begun : (q : Quotes) (r : Reference) → has_begun q ≡ true → has_begun q ≡ false → r ≡ Closed
 not-begun q r t f = contradicts (sym f ∙ t)
@@ -345,6 +356,7 @@ reads_on text begins k (InAttributeName t typed name) places c b i here e s =
 reads_on text begins k (InCommentEnd x) places c b i here e s = free_reads text k (k + 1) _ _ (free_comment c x)
 reads_on text begins k (InContentEnd x h) places c b i here e s = free_reads text k (k + 1) _ _ (free_content_end h c b x)
 reads_on text begins k (InStyleElement x h) places c b i here e s = free_reads text k (k + 1) _ _ (free_element_pending x h c b)
+reads_on text begins k (InScriptElement n h) places c b i here e s = free_reads text k (k + 1) _ _ (free_step n (script_scan_step n h c b) c)
 reads_on text begins k (BeforeType t) places c b i here e s = free_reads text k (k + 1) _ _ (free_before_type c b t)
 reads_on text begins k (InType t q v r) places c b i here e s = free_reads text k (k + 1) _ _ (free_type (ends_value q c) c b t q v r)
 

@@ -1,20 +1,22 @@
 -- The scan states and the causes of the code, where that many bytes of a text have been read.
-use Rattle.std.specs.Prelude.{ℕ, ◌+◌, ◌-◌, ◌*◌, ◌/◌, max, List, [], ◌∷◌, Option, Some, None}
+use Rattle.std.specs.Prelude.{ℕ, ◌+◌, ◌-◌, ◌*◌, ◌/◌, max, List, [], ◌∷◌, length, Option, Some, None}
 use Rattle.std.specs.Str.{str_to_ascii_lowercase}
 use Rattle.place_core.specs.page.Classes.{class_of}
 use Rattle.place_core.specs.page.References.{Form, Begun, Named, Hashed, Decimal, HexMark, Hexadecimal, Reference, Closed, Open, ReferenceStep, Grows, Closes, Breaks, next_reference}
 use Rattle.place_core.specs.page.Comments.{Declaration, OpensComment, OpensDoctype, Undecided, OpensNothing}
 use Rattle.place_core.specs.place.Errors.{PathCause}
-use Rattle.place_core.specs.page.States.{CommentState, Started, StartedDash, Dash, DashDash, Bang, Nothing, PendingLess, PendingName, PendingBang, PendingBangDash}
+use Rattle.place_core.specs.page.States.{CommentState, Started, StartedDash, Dash, DashDash, Bang, Pending, Nothing, PendingLess, PendingName, PendingBang, PendingBangDash, PendingOpening}
 use Rattle.place_core.specs.page.Tags.{Value, ValueState, Quoting, DoubleQuoted, SingleQuoted, Unquoted}
 use Rattle.place_core.specs.declared.element.Element.TheVariants as element
 use Rattle.place_core.specs.declared.place.Place.{Place}
 use Rattle.url_lexer.specs.Triples.{Triple, NoTriple, AfterPercent, AfterDigit}
-use Rattle.html_scan.specs.Scans.{Scan, At, AfterLess, AfterLessSolidus, InDeclaration, InTagName, InAttributeName, InCommentEnd, InContentEnd, InStyleElement, InUrl, InStyle, InScript, BeforeType, InType, type_begun, type_read}
+use Rattle.html_scan.specs.Scans.{Scan, At, AfterLess, AfterLessSolidus, InDeclaration, InTagName, InAttributeName, InCommentEnd, InContentEnd, InStyleElement, InScriptElement, InUrl, InStyle, InScript, BeforeType, InType, type_begun, type_read}
 use Rattle.html_scan.specs.Slices.{pending}
 use Rattle.css_lexer.specs.Escapes.{StyleEscape, AfterBackslash}
 use Rattle.css_step.specs.StyleScans.{StyleScan, ScanWord, ScanSplitEscape, ScanString, ScanQuotedUrl}
 use Rattle.css_step.specs.StyleScanViews.{style_scan_at}
+use Rattle.js_lexer.specs.States as script
+use Rattle.js_step.specs.ScriptScans.{ScriptScan}
 use Rattle.js_step.specs.ScriptScanViews.{script_scan_at}
 use Rattle.js_step.specs.declared.scan.ScriptScan.{ScriptScan as ReadScript}
 use Rattle.html_scan.specs.declared.declaration.Declaration.{Declaration as ReadDeclaration}
@@ -31,6 +33,8 @@ use Rattle.html_scan.specs.declared.references.ReferenceForm.{ReferenceForm}
 use Rattle.html_scan.specs.declared.references.ReferenceForm.TheVariants as form
 use Rattle.html_scan.specs.declared.scan.Scan.{Scan as ReadScan}
 use Rattle.html_scan.specs.declared.scan.Scan.TheVariants as scan
+use Rattle.html_scan.specs.declared.script_pending.ScriptPending.{ScriptPending}
+use Rattle.html_scan.specs.declared.script_pending.ScriptPending.TheVariants as back
 use Rattle.html_scan.specs.declared.triple.Triple.{Triple as ReadTriple}
 use Rattle.html_scan.specs.declared.triple.Triple.TheVariants as triple
 
@@ -78,6 +82,23 @@ abbrev pub read_type : Value ValueState → Reference → List ℕ → Value Val
 read_type v r [] = (v, r)
 read_type v r (b ∷ bs) = read_type (type_read v r b) (next_reference r (class_of b) b) bs
 
+-- What is pending back in the element `script`; its letters are the last ones of the bytes that have been read. And how many bytes it is.
+abbrev pub script_pending_at : List ℕ → ℕ → ScriptPending → Pending
+script_pending_at text k back.Nothing = Nothing
+script_pending_at text k back.Less = PendingLess
+script_pending_at text k (back.Name letters) = PendingName (pending text (k - letters) k)
+script_pending_at text k back.Bang = PendingBang
+script_pending_at text k back.BangDash = PendingBangDash
+script_pending_at text k (back.Opening letters) = PendingOpening (pending text (k - letters) k)
+
+abbrev pub pending_length : ScriptPending → ℕ
+pending_length back.Nothing = 0
+pending_length back.Less = 1
+pending_length (back.Name letters) = letters + 2
+pending_length back.Bang = 2
+pending_length back.BangDash = 3
+pending_length (back.Opening letters) = letters + 1
+
 -- the scan state after that many bytes of a text
 abbrev pub scan_at : List ℕ → ℕ → ReadScan → Scan
 scan_at text k (scan.At p) = At p
@@ -95,6 +116,7 @@ scan_at text k (scan.InContentName e from) = InContentEnd e (PendingName (pendin
 scan_at text k (scan.InStyleElement s) = InStyleElement (style_scan_at s) Nothing
 scan_at text k (scan.AfterStyleLess s) = InStyleElement (style_scan_at s) PendingLess
 scan_at text k (scan.InStyleName s from) = InStyleElement (style_scan_at s) (PendingName (pending text (from + 2) k))
+scan_at text k (scan.InScriptElement n p) = InScriptElement (script_scan_at n) (script_pending_at text k p)
 scan_at text k scan.AfterBlockBang = InContentEnd element.DataBlock PendingBang
 scan_at text k scan.AfterBlockBangDash = InContentEnd element.DataBlock PendingBangDash
 scan_at text k (scan.BeforeType t) = BeforeType t
@@ -130,6 +152,20 @@ abbrev pub script_from : ℕ → Option OpenReference → ℕ
 script_from count None = (count + 4) / 5
 script_from count (Some r) = r.from + 1 + (count - 5 * r.from)
 
+-- In an element each byte of a text feeds a script once, so that its counts are no greater than what has been read. Nor are those of the bytes of
+-- which a cause says that it stands so far back: of a slash, of a character, of an escape, of what may become markup.
+abbrev pub slash_back : script.At → ℕ
+slash_back (script.Slash s) = 1
+slash_back a = 0
+
+abbrev pub script_lookback : ScriptScan → ℕ
+script_lookback n =
+    greatest (slash_back n.state.at ∷ length n.state.held ∷ length n.state.trail.markup ∷ length n.state.trail.escape ∷ n.state.trail.brace
+    ∷ n.state.trail.bracket ∷ n.state.trail.literal ∷ [])
+
+abbrev pub script_reach : ReadScript → ℕ
+script_reach n = max (script_count n) (script_lookback (script_scan_at n))
+
 abbrev pub pending_from : ReadScan → ℕ
 pending_from (scan.At p) = 0
 pending_from scan.AfterLess = 0
@@ -146,6 +182,7 @@ pending_from (scan.InContentName e from) = from + 2
 pending_from (scan.InStyleElement s) = begun_lexeme (style_scan_at s)
 pending_from (scan.AfterStyleLess s) = begun_lexeme (style_scan_at s) + 1
 pending_from (scan.InStyleName s from) = from + 2
+pending_from (scan.InScriptElement n p) = script_reach n + pending_length p
 pending_from scan.AfterBlockBang = 2
 pending_from scan.AfterBlockBangDash = 3
 pending_from (scan.BeforeType t) = 0

@@ -1,26 +1,27 @@
 -- How a text is stepped, byte by byte, for all the paths that stand at a place together. Between lexemes they are at a place, which has
--- sets; in a lexeme they are all in the same one. In a lexeme or a reference of a URL or a style, and in what may be the end tag of the
--- element `style`, what is a set all the same is kept: the parts of a URL, and what paths of a style ended in before the text. What is
--- left out of the states of the lexer is what no place depends on: references in text and in values that are text.
+-- sets; in a lexeme they are all in the same one. In a lexeme or a reference of a URL or a style, in a script, and in what may be the end tag of the
+-- elements `style` and `script`, what is a set all the same is kept: the parts of a URL, what paths of a style or a script ended in before the text, and
+-- what a slash would be. What is left out of the states of the lexer is what no place depends on: references in text and in values that are text.
 use Rattle.std.specs.Prelude.{ℕ, Bool, true, false, ◌||◌, ◌&&◌, codes, List, [], ◌∷◌, ◌++◌, length, Option, Some, None, option_map, if◌then◌else◌}
 use Rattle.std.specs.Char.{to_ascii_lowercase}
 use Rattle.place_core.specs.page.Classes.{Class, White, ExclamationMark, QuotationMark, Apostrophe, HyphenMinus, Solidus, LessThan, EqualsSign, GreaterThan, Letter, class_of, is_equals_sign}
 use Rattle.place_core.specs.page.Comments.{Declaration, OpensComment, OpensDoctype, Undecided, OpensNothing, declared_by, next_comment, closes_comment}
-use Rattle.place_core.specs.page.Contents.{may_be_name_of, is_name_of, pending_bytes}
+use Rattle.place_core.specs.page.Contents.{ScriptStep, Reads, EndsContent, script_step, may_be_name_of, is_name_of, pending_bytes}
 use Rattle.css_lexer.specs.Classes.{style_class}
 use Rattle.css_lexer.specs.Elements.{less_than_cut_escape, less_than_cut_string}
 use Rattle.css_lexer.specs.RefusalCodes.{SplitToken, StyleCutRefusal, at_end}
+use Rattle.js_lexer.specs.Elements.{script_may_end}
 use Rattle.js_lexer.specs.declared.sense.Sense.TheVariants as sense
 use Rattle.js_step.specs.KeptWords.{kept_scan}
-use Rattle.js_step.specs.ScriptScans.{ScriptScan, script_scan_start, script_scan_next, script_scan_error, script_scan_place, script_scan_shown, script_scan_cut_error, script_scan_end_error}
+use Rattle.js_step.specs.ScriptScans.{ScriptScan, script_scan_start, script_shared, script_scan_next, script_scan_error, script_scan_place, script_scan_shown, script_scan_cut_error, script_scan_end_error}
 use Rattle.css_step.specs.StyleScans.{StyleScan, ScanCode, ScanWord, ScanSplitEscape, ScanSolidus, ScanLessThan, ScanComment, ScanStarBefore, ScanString, ScanFresh, ScanBareUrl, ScanQuotedUrl, ScanEnded, style_scan_start, style_scan_next, style_scan_error, style_scan_place, style_scan_cut_error, is_style_start}
-use Rattle.place_core.specs.place.Errors.{PathCause, PathRefusal, FedByte, ScriptFeeding, fed_places, first_places, cut_places, places_with, script_places_refusal, script_ending_refusal, deep_place, place_error, value_error, fed_error, language_error, first_byte_error, first_cause, at_hand, quotes_error, block_byte_error, block_cut_error, content_byte_error, content_end_cut_error, cut_cause, pending_before, tag_name_error, attribute_name_error, unless_second}
+use Rattle.place_core.specs.place.Errors.{PathCause, PathRefusal, FedByte, ScriptFeeding, fed_places, first_places, cut_places, places_with, script_places_refusal, script_ending_refusal, script_content_error, script_content_cut_error, deep_place, place_error, value_error, fed_error, language_error, first_byte_error, first_cause, at_hand, quotes_error, block_byte_error, block_cut_error, content_byte_error, content_end_cut_error, cut_cause, pending_before, tag_name_error, attribute_name_error, unless_second}
 use Rattle.place_core.specs.page.Html.{ends_value}
 use Rattle.place_core.specs.page.References.{Form, Reference, Closed, Open, ReferenceStep, Breaks, turn, flushed, next_reference, undone_byte, settled, as_it_stands}
 use Rattle.place_core.specs.place.ScriptParts.{script_senses, script_no_tails}
 use Rattle.place_core.specs.place.StyleParts.{style_tails}
 use Rattle.place_core.specs.place.StatePlaces.{only_name, only_before, only_inside, only_after, unbegun, body_at, quotes_at}
-use Rattle.place_core.specs.page.States.{CommentState, Started, Inside, Broken, Pending, Nothing, PendingLess, LessAtCut, PendingName, PendingBang, PendingBangDash}
+use Rattle.place_core.specs.page.States.{CommentState, Started, Inside, Broken, Pending, Nothing, PendingLess, LessAtCut, PendingName, PendingBang, PendingBangDash, PendingOpening}
 use Rattle.place_core.specs.page.Tags.{is_second_type, is_start, tag_of_name, element_on, Value, ValueState, languages, value_start, attribute_value_of, with_bytes, Feeding, feed_bytes, refusal_code, style_code, script_code, style_cut, tag_with_value, Quoting, DoubleQuoted, SingleQuoted, Unquoted}
 use Rattle.place_core.specs.page.Words.{kind_of}
 use Rattle.place_core.specs.declared.body.Body.{Body}
@@ -70,6 +71,8 @@ pub data Scan : Type 0 where
   InContentEnd : Element → Pending → Scan
   -- in the element `style`, in a lexeme of the style or in what may be its end tag: the scan state of the style before that
   InStyleElement : StyleScan → Pending → Scan
+  -- in the element `script`, behind a byte of this text: likewise
+  InScriptElement : ScriptScan → Pending → Scan
   -- before the value of the `type` of a script, of this tag; and in it, with what it is so far, and the reference that is open in it
   BeforeType : TagOf → Scan
   InType : TagOf → Quoting → Value ValueState → Reference → Scan
@@ -81,17 +84,17 @@ typed_with t typed k = typed
 abbrev pub in_tag : TagOf → Bool → Spots → Option Kind → Scan
 in_tag t typed spots k = At (place.Tag (record { tag = t; typed = typed; spots = spots; kind = k }))
 
--- after the end of a tag; behind that of a script, which is refused, nothing is scanned
+-- after the end of a tag
 abbrev pub content_scan : TagOf → Scan
 content_scan tag.End = At place.Text
 content_scan (tag.Start element.Title) = At (place.Rcdata element.Title)
 content_scan (tag.Start element.Textarea) = At (place.Rcdata element.Textarea)
 content_scan (tag.Start element.Style) = At (place.Style (css.Code (style_tails false false false)))
-content_scan (tag.Start element.Script) = At place.Text
+content_scan (tag.Start element.Script) = At (place.Script (js.Code (script_senses sense.Re) script_no_tails))
 content_scan (tag.Start element.DataBlock) = At (place.Block false)
 content_scan (tag.Start element.Other) = At place.Text
 
--- where a value begins after an equals sign; a value of a kind that is not built is refused
+-- where a value begins after an equals sign
 abbrev pub body_scan : TagOf → Bool → Option Body → Scan
 body_scan t typed (Some b) = At (place.Value (record { tag = t; typed = typed; quotes = unbegun; body = b }))
 body_scan t typed None = At place.Text
@@ -215,13 +218,23 @@ script_feeding = record {
   refuses_names = λ n. true;
 }
 
-abbrev pub all_scripts : ScriptFeeding ScriptScan
-all_scripts = record {
+abbrev pub script_scan_may_end : ScriptScan → Bool
+script_scan_may_end n = script_may_end (script_shared n)
+
+abbrev pub scripts_reading_in : (element : Bool) → ScriptFeeding ScriptScan
+scripts_reading_in element = record {
   feed = script_fed_byte;
-  refuses = script_scan_error false;
+  refuses = script_scan_error element;
   refuses_cut = script_scan_cut_error;
   refuses_end = script_scan_end_error;
+  may_end = script_scan_may_end;
 }
+
+abbrev pub all_scripts : ScriptFeeding ScriptScan
+all_scripts = scripts_reading_in false
+
+abbrev pub all_element_scripts : ScriptFeeding ScriptScan
+all_element_scripts = scripts_reading_in true
 
 abbrev pub empty_script_between : ValuePlace → Quotes → ValuePlace
 empty_script_between v q =
@@ -396,6 +409,23 @@ element_pending_next s (PendingName letters) c b =
     element_name_next s (may_be_name_of element.Style (letters ++ b ∷ [])) (is_name_of element.Style letters) c b letters
 element_pending_next s PendingBang c b = released_next s (codes "<!") c b
 element_pending_next s PendingBangDash c b = released_next s (codes "<!-") c b
+element_pending_next s (PendingOpening letters) c b = released_next s (codes "<" ++ letters) c b
+
+-- In the element `script`, by what the byte does (`script_step`).
+abbrev pub behind_end_name : Class → Scan
+behind_end_name White = in_tag tag.End false only_before None
+behind_end_name Solidus = in_tag tag.End false only_before None
+behind_end_name c = At place.Text
+
+abbrev pub scan_by_step : ScriptScan → ScriptStep → Class → Scan
+scan_by_step n (Reads bytes h) c = InScriptElement (feed_bytes script_feeding n bytes) h
+scan_by_step n (EndsContent letters) c = behind_end_name c
+
+abbrev pub script_scan_step : ScriptScan → Pending → Class → ℕ → ScriptStep
+script_scan_step n h c b = script_step (script_scan_may_end n) element.Script h c b
+
+abbrev pub script_element_next : ScriptScan → Pending → Class → ℕ → Scan
+script_element_next n h c b = scan_by_step n (script_scan_step n h c b) c
 
 abbrev pub place_next : Place → Class → ℕ → Scan
 place_next place.Text c b = text_scan c
@@ -406,7 +436,7 @@ place_next (place.Tag t) c b = tag_next t c b
 place_next (place.Value v) c b = value_next v NoTriple Closed c b
 place_next (place.Block lt) c b = content_next c element.DataBlock
 place_next (place.Style p) c b = element_next (style_scan_start p) c b
-place_next p c b = At p
+place_next (place.Script j) c b = script_element_next (script_scan_start j) Nothing c b
 
 -- in a lexeme
 abbrev pub less_next : Class → ℕ → Scan
@@ -467,6 +497,7 @@ scan_next (InAttributeName t typed name) c b = attribute_name_next c b t typed (
 scan_next (InCommentEnd s) c b = comment_next c s
 scan_next (InContentEnd e h) c b = content_end_next h c b e
 scan_next (InStyleElement s h) c b = element_pending_next s h c b
+scan_next (InScriptElement n h) c b = script_element_next n h c b
 scan_next (InUrl v t r) c b = value_next v t r c b
 scan_next (InStyle v s r) c b = style_value_next v s r c b
 scan_next (InScript v n r) c b = script_value_next v n r c b
@@ -483,6 +514,7 @@ element_cause s h c b = content_byte_error style_feeding element.Style s h c b
 abbrev pub place_cause : Place → Class → ℕ → Option PathCause
 place_cause (place.Value v) c b = value_cause v Closed c b
 place_cause (place.Style p) c b = element_cause (style_scan_start p) Nothing c b
+place_cause (place.Script j) c b = script_content_error all_element_scripts element.Script (script_scan_start j) Nothing c b
 place_cause p c b = at_hand (place_error p c)
 
 abbrev pub scan_error : Scan → Class → ℕ → Option PathCause
@@ -498,6 +530,7 @@ scan_error (InDeclaration pending) c b = None
 scan_error (InCommentEnd s) c b = None
 scan_error (InContentEnd e h) c b = content_end_error e h c
 scan_error (InStyleElement s h) c b = element_cause s h c b
+scan_error (InScriptElement n h) c b = script_content_error all_element_scripts element.Script n h c b
 scan_error (BeforeType t) c b = at_hand (quotes_error t unbegun c)
 scan_error (InType t q v r) c b = at_hand (quotes_error (type_tag t (ended_type v r)) (quotes_at q) c)
 
@@ -527,6 +560,7 @@ scan_place (InAttributeName t typed name) = whole_name_place t typed (kind_of (e
 scan_place (InCommentEnd s) = place.Comment true
 scan_place (InContentEnd e h) = content_end_place e h
 scan_place (InStyleElement s h) = place.Style (style_scan_place (feed_bytes style_feeding s (pending_bytes h)))
+scan_place (InScriptElement n h) = place.Script (script_scan_place (feed_bytes script_feeding n (pending_bytes h)))
 scan_place (BeforeType t) = place.Text
 scan_place (InType t q v r) = place.Text
 
@@ -556,16 +590,18 @@ abbrev pub script_scan_before : ScriptScan → Reference → List ℕ → Script
 script_scan_before n (Open f bytes) (b ∷ bs) = script_before_turn (turn (class_of b) f) n (class_of b) f bytes
 script_scan_before n r bs = feed_bytes script_feeding n (as_it_stands r)
 
--- what is pending back in the element `style`, before the bytes that are left
-abbrev pub pending_left : Pending → List ℕ → Pending
-pending_left h [] = h
-pending_left h (b ∷ bs) = pending_before element.Style h (class_of b) b
+-- what is pending back in the element `style` or `script`, before the bytes that are left
+abbrev pub pending_left : Element → Pending → List ℕ → Pending
+pending_left e h [] = h
+pending_left e h (b ∷ bs) = pending_before e h (class_of b) b
 
 abbrev pub scan_shown : Scan → List ℕ → Option Place
 scan_shown (InUrl v t r) bs = Some (url_before v r bs)
 scan_shown (InStyle v s r) bs = Some (with_style v (style_scan_before s r bs))
 scan_shown (InScript v n r) bs = option_map (λ j. with_body v (body.Js j)) (script_scan_shown (script_scan_before n r bs))
-scan_shown (InStyleElement s h) bs = Some (scan_place (InStyleElement s (pending_left h bs)))
+scan_shown (InStyleElement s h) bs = Some (scan_place (InStyleElement s (pending_left element.Style h bs)))
+scan_shown (InScriptElement n h) bs =
+    option_map place.Script (script_scan_shown (feed_bytes script_feeding n (pending_bytes (pending_left element.Script h bs))))
 scan_shown (BeforeType t) bs = None
 scan_shown (InType t q v r) bs = None
 scan_shown f bs = Some (scan_place f)
@@ -614,6 +650,7 @@ scan_cut_error (InTagName ends name) = None
 scan_cut_error (InCommentEnd s) = None
 scan_cut_error (InContentEnd e h) = content_cut_error e h
 scan_cut_error (InStyleElement s h) = content_end_cut_error style_feeding style_less_cause s h
+scan_cut_error (InScriptElement n h) = script_content_cut_error all_element_scripts n h
 scan_cut_error (BeforeType t) = at_hand (Some code.BadHTML)
 scan_cut_error (InType t q v r) = at_hand (Some code.BadHTML)
 

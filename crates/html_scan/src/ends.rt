@@ -20,6 +20,7 @@ use crate::contents::rest_place;
 use crate::names::{is_name_of, kind_on, may_be_name_of, tag_named};
 use crate::references::{OpenReference, Outcome, ReferenceForm, is_equals, turn};
 use crate::scan::Scan;
+use crate::script_elements::{behind_pending, element_shown, script_left, script_place};
 use crate::scripts::{broken as broken_script, script_at_cut, with_script};
 use crate::slices::pending;
 use crate::style_elements::{behind_less, behind_name, end_tag_goes_on, style_place};
@@ -70,6 +71,9 @@ pub fn end_place(text: &[u8], scan: Scan) -> Place
         Scan::AfterStyleLess(style) => style_place(behind_less(style)),
         Scan::InStyleName { style, from } => {
             style_place(behind_name(style, pending(text, from + 2, text.len())))
+        }
+        Scan::InScriptElement { script, pending } => {
+            script_place(behind_pending(text, text.len(), script, pending))
         }
         Scan::BeforeType(_) | Scan::InType { .. } => Place::Text,
     }
@@ -123,6 +127,9 @@ pub fn shown_place(text: &[u8], index: usize, scan: Scan) -> Option<Place>
         } => script_shown(place, script_before(text, index, script, reference)),
         Scan::AfterStyleLess(style) => Some(less_before(text, index, style)),
         Scan::InStyleName { style, from } => Some(name_before(text, index, style, from)),
+        Scan::InScriptElement { script, pending } => {
+            element_shown(script_left(text, index, script, pending))
+        }
         _ => {
             let (read, _) = text.split_at(index);
             Some(end_place(read, scan))
@@ -135,7 +142,7 @@ pub fn shown_place(text: &[u8], index: usize, scan: Scan) -> Option<Place>
 fn less_before(text: &[u8], index: usize, style: StyleScan) -> Place
     requires inside { index ≤ length text.now }
     ensures { result ≡ scan_place (InStyleElement (style_scan_at style)
-        (pending_left PendingLess (drop index text.now))) }
+        (pending_left element.Style PendingLess (drop index text.now))) }
 {
     let (_, left) = text.split_at(index);
     match left.split_first() {
@@ -159,7 +166,7 @@ fn name_before(text: &[u8], index: usize, style: StyleScan, from: usize) -> Plac
     requires inside { index ≤ length text.now }
     requires pending { from + 2 ≤ index }
     ensures { result ≡ scan_place (InStyleElement (style_scan_at style)
-        (pending_left (PendingName (slices.pending text.now (from + 2) index))
+        (pending_left element.Style (PendingName (slices.pending text.now (from + 2) index))
         (drop index text.now))) }
 {
     let letters = pending(text, from + 2, index);
@@ -321,6 +328,9 @@ pub fn is_shown(text: &[u8], index: usize, scan: Scan) -> bool
             script,
             reference,
         } => script_shown(place, script_before(text, index, script, reference)).is_some(),
+        Scan::InScriptElement { script, pending } => {
+            element_shown(script_left(text, index, script, pending)).is_some()
+        }
         _ => true,
     }
 }

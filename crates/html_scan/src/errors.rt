@@ -1,6 +1,6 @@
-ghost use Rattle.std.specs.Prelude.{◌≡◌, ◌<◌, ◌≤◌, IfSome, get_or, length, if◌then◌else◌};
+ghost use Rattle.std.specs.Prelude.{◌≡◌, ◌<◌, ◌≤◌, IfSome, None, get_or, length, if◌then◌else◌};
 ghost use Rattle.place_core.specs.declared.code.Code.TheVariants as code;
-ghost use Rattle.place_core.specs.place.Errors.{attribute_name_error, bare_error, block_byte_error, block_error, comment_error, content_error, equals_error, quotes_error, tag_error, tag_name_error, unless_second, value_error};
+ghost use Rattle.place_core.specs.place.Errors.{attribute_name_error, bare_error, block_byte_error, block_error, comment_error, equals_error, quotes_error, tag_error, tag_name_error, unless_second, value_error};
 ghost use Rattle.std.specs.Str.{str_to_ascii_lowercase as lower};
 ghost use Rattle.place_core.specs.page.Tags.{element_on, is_second_type};
 ghost use Rattle.place_core.specs.page.States.{PendingBangDash};
@@ -11,19 +11,21 @@ ghost use Rattle.html_scan.specs.ClassViews.{class_at};
 ghost use Rattle.html_scan.specs.ScanViews.{cause_at, open_reference_at, reference_from, script_count, script_from};
 ghost use Rattle.html_scan.specs.Scans.{place_cause, script_cause, style_cause, value_cause};
 ghost use Rattle.place_core.specs.place.Errors as spec;
-ghost use Rattle.place_core.specs.page.Tags as tags;
+ghost use Rattle.place_core.specs.declared.tag_of.TagOf.{TagOf};
 
 use crate::cause::Cause;
 use crate::class::Class;
-use crate::names::{kind_on, tag_named};
+use crate::names::kind_on;
 use crate::references::OpenReference;
+use crate::script_element_refusals::refused_in_element;
+use crate::script_pending::ScriptPending;
 use crate::script_refusals::refused_in_script;
 use crate::style_refusals::refused_in_style;
 use crate::url_refusals::refused_in_url;
 use crate::{scripts, style_elements};
 use css_step::StyleScan;
 use js_step::ScriptScan;
-use place_core::{Bare, Body, Code, Element, Kind, Place, Quotes, TagOf, TagPlace, ValuePlace};
+use place_core::{Bare, Body, Code, Kind, Place, Quotes, TagOf, TagPlace, ValuePlace};
 
 /// Why a byte is refused at a place.
 #[inline(always)]
@@ -44,17 +46,24 @@ pub fn at_place(text: &[u8], index: usize, class: Class, place: Place) -> Option
             class,
             text[index],
         )),
-        Place::Script(_) => at_hand(Some(Code::NotBuilt)),
+        Place::Script(js) => {
+            refused_in_element(
+                text,
+                index,
+                class,
+                scripts::begun(js),
+                ScriptPending::Nothing,
+            )
+        }
     }
 }
 
-/// Why a byte is refused in the name of a tag, of which this has been read.
-pub fn in_tag_name(ends: bool, name: &[u8], class: Class) -> Option<Code>
-    ensures { result ≡ tag_name_error (tags.tag_of_name ends (lower name.now)) (class_at class) }
+/// Why a byte is refused in the name of a tag.
+pub fn in_tag_name(class: Class) -> Option<Code>
+    ensures { (t : TagOf) → result ≡ tag_name_error t (class_at class) }
 {
     match class {
         Class::QuotationMark | Class::Apostrophe | Class::LessThan => Some(Code::BadHTML),
-        Class::GreaterThan => entering(tag_named(ends, name)),
         _ => None,
     }
 }
@@ -67,18 +76,17 @@ pub fn in_attribute_name(tag: TagOf, typed: bool, name: &[u8], class: Class) -> 
         (cause.back ≤ length name.now) × (cause.shown ≤ length name.now)) }
 {
     match class {
-        Class::White | Class::Solidus | Class::EqualsSign => {
-            name_ends(typed, kind_on(tag, name), name.len(), None)
+        Class::White | Class::Solidus | Class::EqualsSign | Class::GreaterThan => {
+            name_ends(typed, kind_on(tag, name), name.len())
         }
-        Class::GreaterThan => name_ends(typed, kind_on(tag, name), name.len(), entering(tag)),
         Class::QuotationMark | Class::Apostrophe | Class::LessThan => at_hand(Some(Code::BadHTML)),
         _ => None,
     }
 }
 
-/// Why the end of an attribute's name is refused: a second `type` of a script, at its first byte, or else this.
-pub fn name_ends(typed: bool, kind: Kind, len: usize, code: Option<Code>) -> Option<Cause>
-    ensures error { cause_at result ≡ unless_second (is_second_type typed kind) len code }
+/// Why the end of an attribute's name is refused: a second `type` of a script, at its first byte.
+pub fn name_ends(typed: bool, kind: Kind, len: usize) -> Option<Cause>
+    ensures error { cause_at result ≡ unless_second (is_second_type typed kind) len None }
     ensures bound { IfSome result (λ cause. (cause.back ≤ len) × (cause.shown ≤ len)) }
 {
     if is_second(typed, kind) {
@@ -88,7 +96,7 @@ pub fn name_ends(typed: bool, kind: Kind, len: usize, code: Option<Code>) -> Opt
             shown: len,
         });
     }
-    at_hand(code)
+    None
 }
 
 // Where paths stand at several spots, a byte may be refused on some of them alone.
@@ -96,8 +104,7 @@ fn in_tag(place: TagPlace, class: Class) -> Option<Code>
     ensures { result ≡ tag_error place (class_at class) }
 {
     match class {
-        Class::White | Class::Solidus => None,
-        Class::GreaterThan => entering(place.tag),
+        Class::White | Class::Solidus | Class::GreaterThan => None,
         Class::EqualsSign => equals_sign(place.spots.name, place.spots.before),
         Class::QuotationMark | Class::Apostrophe | Class::LessThan => Some(no_name(
             place.spots.name,
@@ -152,7 +159,7 @@ fn in_value(
     ensures bound { IfSome result (λ cause. (cause.back ≤ index) × (cause.shown ≤ index)) }
 {
     match place.body {
-        Body::Plain | Body::NoHole => at_hand(in_quotes(place.tag, place.quotes, class)),
+        Body::Plain | Body::NoHole => at_hand(in_quotes(place.quotes, class)),
         Body::Url(parts) => match refused_in_url(
             text,
             index,
@@ -162,7 +169,7 @@ fn in_value(
             reference,
         ) {
             Some(cause) => Some(cause),
-            None => at_hand(in_quotes(place.tag, place.quotes, class)),
+            None => at_hand(in_quotes(place.quotes, class)),
         },
         Body::Css(css) => {
             let style = css_step::start(css);
@@ -240,30 +247,29 @@ fn of_value(place: ValuePlace, class: Class) -> Option<Code>
 {
     match place.body {
         Body::Plain | Body::NoHole | Body::Url(_) | Body::Css(_) | Body::Js(_) => {
-            in_quotes(place.tag, place.quotes, class)
+            in_quotes(place.quotes, class)
         }
     }
 }
 
 /// In a value, or before one, whatever its language.
-pub fn in_quotes(tag: TagOf, quotes: Quotes, class: Class) -> Option<Code>
-    ensures { result ≡ quotes_error tag quotes (class_at class) }
+pub fn in_quotes(quotes: Quotes, class: Class) -> Option<Code>
+    ensures { (t : TagOf) → result ≡ quotes_error t quotes (class_at class) }
 {
     match quotes {
         Quotes::Dq | Quotes::Sq => None,
-        Quotes::Bare(bare) => in_bare(tag, bare, class),
+        Quotes::Bare(bare) => in_bare(bare, class),
     }
 }
 
 // In a value without quotes, or before one.
-fn in_bare(tag: TagOf, bare: Bare, class: Class) -> Option<Code>
-    ensures { result ≡ bare_error tag bare (class_at class) }
+fn in_bare(bare: Bare, class: Class) -> Option<Code>
+    ensures { (t : TagOf) → result ≡ bare_error t bare (class_at class) }
 {
     match class {
         Class::White if bare.uq && bare.unbegun => Some(Code::AmbigContext),
         Class::QuotationMark | Class::Apostrophe if bare.uq => Some(Code::BadHTML),
         Class::LessThan | Class::EqualsSign | Class::GraveAccent => Some(Code::BadHTML),
-        Class::GreaterThan => entering(tag),
         _ => None,
     }
 }
@@ -301,16 +307,6 @@ pub fn after_block_bang_dash(class: Class) -> Option<Cause>
             back: 3,
             shown: 3,
         }),
-        _ => None,
-    }
-}
-
-// The content after a tag, of which a script's is not read yet.
-fn entering(tag: TagOf) -> Option<Code>
-    ensures { result ≡ content_error tag }
-{
-    match tag {
-        TagOf::Start(Element::Script) => Some(Code::NotBuilt),
         _ => None,
     }
 }

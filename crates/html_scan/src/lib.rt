@@ -18,8 +18,12 @@ mod quoting;
 mod references;
 mod refusals;
 mod scan;
+mod script_element_refusals;
+mod script_elements;
+mod script_pending;
 mod script_places;
 mod script_refusals;
+mod script_steps;
 mod scripts;
 mod slices;
 mod step;
@@ -47,12 +51,17 @@ pub use references::{
 };
 pub use refusals::{at_byte, at_end, lexeme_at_end};
 pub use scan::Scan;
+pub use script_element_refusals::{refused_at_cut, refused_in_element};
+pub use script_elements::{behind_pending, letters_of, may_end, opening};
+pub use script_pending::ScriptPending;
 pub use script_refusals::{
     ends_between, is_told_at_node_end, refused_in_script, script_at_byte, script_at_end,
     script_begins, script_too_deep, stops,
 };
+pub use script_steps::{InWord, ScriptStep, script_step};
 pub use scripts::{
-    after_byte as after_script_byte, begun as begun_script, broken as broken_script, script_at_cut,
+    after_byte as after_script_byte, after_bytes as after_script_bytes, begun as begun_script,
+    broken as broken_script, script_at_cut,
 };
 pub use slices::pending;
 pub use step::next;

@@ -15,12 +15,12 @@ use crate::errors::{
 use crate::names::{is_name_of, kind_on, may_be_name_of};
 use crate::quoting::Quoting;
 use crate::scan::Scan;
+use crate::script_element_refusals::{refused_at_cut, refused_in_element};
 use crate::script_refusals::of_open_in_script;
 use crate::slices::pending;
 use crate::style_elements;
 use crate::style_refusals::{of_open_in_style, of_unfinished_style};
 use crate::tags::UNBEGUN;
-use crate::types::type_tag;
 use crate::url_refusals::{of_open, of_unfinished};
 use crate::values::BEGUN;
 use css_step::StyleScan;
@@ -37,9 +37,7 @@ pub fn at_byte(text: &[u8], index: usize, class: Class, scan: Scan) -> Option<Ca
 {
     match scan {
         Scan::At(place) => at_place(text, index, class, place),
-        Scan::InTagName { ends, from } => {
-            at_hand(in_tag_name(ends, pending(text, from, index), class))
-        }
+        Scan::InTagName { .. } => at_hand(in_tag_name(class)),
         Scan::InAttributeName { tag, typed, from } => {
             in_attribute_name(tag, typed, pending(text, from, index), class)
         }
@@ -63,17 +61,12 @@ pub fn at_byte(text: &[u8], index: usize, class: Class, scan: Scan) -> Option<Ca
             style_elements::refused_after_less(style, class, text[index])
         }
         Scan::InStyleName { style, from } => in_style_name(text, index, class, style, from),
-        Scan::AfterBlockBangDash => after_block_bang_dash(class),
-        Scan::BeforeType(tag) => at_hand(in_quotes(tag, UNBEGUN, class)),
-        Scan::InType {
-            tag,
-            quoting,
-            from,
-            ..
-        } => {
-            let tag = type_tag(tag, pending(text, from, index));
-            at_hand(in_quotes(tag, quotes_of(quoting), class))
+        Scan::InScriptElement { script, pending } => {
+            refused_in_element(text, index, class, script, pending)
         }
+        Scan::AfterBlockBangDash => after_block_bang_dash(class),
+        Scan::BeforeType(_) => at_hand(in_quotes(UNBEGUN, class)),
+        Scan::InType { quoting, .. } => at_hand(in_quotes(quotes_of(quoting), class)),
         _ => None,
     }
 }
@@ -89,7 +82,7 @@ pub fn at_end(text: &[u8], scan: Scan) -> Option<Cause>
     match scan {
         Scan::InAttributeName { tag, typed, from } => {
             let name = pending(text, from, text.len());
-            name_ends(typed, kind_on(tag, name), name.len(), None)
+            name_ends(typed, kind_on(tag, name), name.len())
         }
         Scan::InUrl {
             place,
@@ -111,6 +104,7 @@ pub fn at_end(text: &[u8], scan: Scan) -> Option<Cause>
         Scan::InStyleName { style, from } => {
             style_elements::refused_at_name(style, pending(text, from + 2, text.len()))
         }
+        Scan::InScriptElement { script, pending } => refused_at_cut(text, script, pending),
         Scan::InContentName {
             element: Element::DataBlock,
             from,

@@ -1,6 +1,7 @@
 use crate::comment_stage::CommentStage;
 use crate::quoting::Quoting;
 use crate::references::OpenReference;
+use crate::script_pending::ScriptPending;
 use crate::triple::Triple;
 use css_step::StyleScan;
 use js_step::ScriptScan;
@@ -67,6 +68,11 @@ pub enum Scan {
     InStyleName {
         style: StyleScan,
         from: usize,
+    },
+    /// In the element `script`, behind a byte of this text; `script` is the scan state before what is pending back.
+    InScriptElement {
+        script: ScriptScan,
+        pending: ScriptPending,
     },
     /// In a data block, after `<!`.
     AfterBlockBang,

@@ -5,7 +5,7 @@ ghost use Rattle.js_step.specs.ScriptScans.{script_scan_start};
 ghost use Rattle.place_core.specs.page.References.{Closed, Open, as_it_stands, flushed};
 ghost use Rattle.place_core.specs.page.Tags.{feed_bytes};
 ghost use Rattle.html_scan.specs.ClassViews.{class_at};
-ghost use Rattle.html_scan.specs.ScanViews.{open_form_at, open_reference_at, pending_from, scan_at, script_count, script_from};
+ghost use Rattle.html_scan.specs.ScanViews.{open_form_at, open_reference_at, pending_from, scan_at, script_count, script_from, script_reach};
 ghost use Rattle.html_scan.specs.Scans.{script_fed_byte, script_fed_next, script_feeding};
 ghost use Rattle.html_scan.specs.Scans as scans;
 ghost use Rattle.html_scan.specs.Slices as slices;
@@ -178,6 +178,7 @@ pub fn after_bytes(script: ScriptScan, bytes: &[u8]) -> ScriptScan
     ensures fed { script_scan_at result
         ≡ feed_bytes script_feeding (script_scan_at script) bytes.now }
     ensures count { script_count result ≤ script_count script + length bytes.now }
+    ensures reach { script_reach result ≤ script_reach script + length bytes.now }
 {
     let mut fed = script;
     for byte in bytes {
@@ -190,6 +191,7 @@ pub fn after_bytes(script: ScriptScan, bytes: &[u8]) -> ScriptScan
 pub fn begun(place: Js) -> ScriptScan
     ensures scan { script_scan_at result ≡ script_scan_start place }
     ensures count { script_count result ≡ 0 }
+    ensures reach { script_reach result ≡ 0 }
 {
     js_step::start(place)
 }
@@ -199,6 +201,7 @@ pub fn after_byte(script: ScriptScan, byte: u8) -> ScriptScan
     requires room { script_count script ≤ most_bytes }
     ensures fed { script_scan_at result ≡ script_fed_byte (script_scan_at script) byte }
     ensures count { script_count result ≤ script_count script + 1 }
+    ensures reach { script_reach result ≤ script_reach script + 1 }
 {
     js_step::next(script, byte)
 }

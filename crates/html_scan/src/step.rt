@@ -11,12 +11,12 @@ use crate::declaration::declared_by;
 use crate::names::{is_name_of, may_be_name_of};
 use crate::scan::Scan;
 use crate::slices::pending;
-use crate::style_elements;
 use crate::tags::{in_attribute_name, in_tag, in_tag_name};
 use crate::texts::{after_less, after_solidus, in_declaration, in_doctype, in_text};
 use crate::triple::Triple;
 use crate::types::{before_type, in_type};
 use crate::values::{in_lexeme, in_script, in_style, in_value};
+use crate::{script_elements, style_elements};
 use css_step::StyleScan;
 use place_core::{Element, Place};
 
@@ -66,6 +66,9 @@ pub fn next(text: &[u8], index: usize, class: Class, scan: Scan) -> Scan
             style_elements::after_less(class, text[index], style, index)
         }
         Scan::InStyleName { style, from } => after_style_letters(text, index, class, style, from),
+        Scan::InScriptElement { script, pending } => {
+            script_elements::in_element(text, index, class, script, pending)
+        }
         Scan::AfterBlockBang => after_block_bang(class),
         Scan::AfterBlockBangDash => in_content(class, Element::DataBlock),
         Scan::BeforeType(tag) => before_type(class, tag, index),
@@ -142,6 +145,6 @@ fn after_place(text: &[u8], index: usize, class: Class, place: Place) -> Scan
         Place::Value(value) => in_value(text, index, class, value, Triple::None, None),
         Place::Block(_) => in_content(class, Element::DataBlock),
         Place::Style(css) => style_elements::at_place(class, text[index], css),
-        Place::Script(_) => Scan::At(place),
+        Place::Script(js) => script_elements::at_place(text, index, class, js),
     }
 }

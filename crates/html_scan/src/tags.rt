@@ -109,7 +109,8 @@ pub fn content(tag: TagOf) -> Place
         TagOf::Start(Element::Textarea) => Place::Rcdata(Element::Textarea),
         TagOf::Start(Element::DataBlock) => Place::Block(false),
         TagOf::Start(Element::Style) => Place::Style(STYLE_START),
-        TagOf::Start(Element::Script | Element::Other) | TagOf::End => Place::Text,
+        TagOf::Start(Element::Script) => Place::Script(SCRIPT_START),
+        TagOf::Start(Element::Other) | TagOf::End => Place::Text,
     }
 }
 

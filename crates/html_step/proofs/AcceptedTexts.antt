@@ -11,9 +11,8 @@ use Rattle.place_core.specs.page.Paths.{at_cut}
 use Rattle.place_core.specs.page.References.{Form, Reference, Closed, Open, ReferenceStep, Grows, Closes, Breaks, flushed, turn, as_it_stands}
 use Rattle.place_core.specs.place.Places.{Below}
 use Rattle.place_core.proofs.ApartPlacesFacts.{apart-sides, has-side, two-below}
-use Rattle.place_core.specs.place.Errors.{node, PathRefusal, broken_off, cut_error, lexeme_error, path_refusal, place_before_bytes, standing_at, TextRead, nothing_read}
-use Rattle.place_core.specs.place.LastLexeme.{last_lexeme_start}
-use Rattle.place_core.specs.place.PathPairs.{ApartBefore, ClashesInText, ClashesApart, MeetsColon, byte_clash, is_in_beginning, state_before, unknown_beginning, unknown_part}
+use Rattle.place_core.specs.place.Errors.{node, PathRefusal, path_refusal, place_before_bytes, element_script, script_read, TextRead, nothing_read}
+use Rattle.place_core.specs.place.PathPairs.{ApartBefore, ClashesInText, ClashesApart, MeetsColon, byte_clash, is_in_beginning, state_before, unknown_beginning}
 use Rattle.place_core.specs.page.Html.{next}
 use Rattle.place_core.specs.page.States.{AttributeName, AttributeValue, InContent, Characters, Bytes, InLanguage, Pending, Template, LexState}
 use Rattle.place_core.specs.page.Tags.{Deciding, OfKind, OfUrl, OfStyle, Quoting, Tag, ValueOf, ValueState, feed_bytes, languages, OfScript, Value, with_bytes, feed_value, cut_value}
@@ -22,17 +21,18 @@ use Rattle.place_core.specs.place.UrlParts.{parts_of, placed_prefix}
 use Rattle.place_core.specs.declared.body.Body.TheVariants as body
 use Rattle.place_core.specs.declared.code.Code.{Code}
 use Rattle.place_core.specs.declared.code.Code.TheVariants as code
+use Rattle.place_core.specs.declared.element.Element.TheVariants as element
+use Rattle.place_core.specs.declared.js.Js.{Js}
 use Rattle.place_core.specs.declared.parts.Parts.{Parts}
 use Rattle.place_core.specs.declared.place.Place.{Place}
 use Rattle.place_core.specs.declared.place.Place.TheVariants as place
 use Rattle.place_core.specs.declared.value_place.ValuePlace.{ValuePlace}
 use Rattle.place_core.specs.declared.prefix.Prefix.{Prefix}
 use Rattle.place_core.proofs.Semilattices.{none_some, one_value}
-use Rattle.html_scan.specs.Scans.{Scan, At, AfterLess, AfterLessSolidus, InDeclaration, InTagName, InAttributeName, InUrl, InStyle, InStyleElement, InCommentEnd, InContentEnd, BeforeType, InType, if_unfinished, pending_left, scan_place, scan_reference, scan_error, scan_next, style_feeding, style_scan, triple_behind, url_scan, with_style, InScript}
+use Rattle.html_scan.specs.Scans.{Scan, At, AfterLess, AfterLessSolidus, InDeclaration, InTagName, InAttributeName, InUrl, InStyle, InStyleElement, InCommentEnd, InContentEnd, BeforeType, InType, pending_left, scan_place, scan_reference, scan_error, scan_next, style_feeding, triple_behind, url_scan, with_style, InScript, InScriptElement}
 use Rattle.js_lexer.specs.Feeding.{feed_script}
-use Rattle.js_lexer.specs.Spots.{Spot, spot_before}
 use Rattle.js_lexer.specs.States.{ScriptState}
-use Rattle.place_core.specs.place.ScriptParts.{script_place}
+use Rattle.place_core.specs.place.ScriptParts.{script_js_before}
 use Rattle.place_core.specs.declared.quotes.Quotes.{Quotes}
 use Rattle.html_step.proofs.ScriptReads.{nil-fits}
 use Rattle.html_step.proofs.ScriptSlashes.{slash-accepted}
@@ -48,7 +48,7 @@ use Rattle.html_step.proofs.KeptBeginnings.{before-none, on_side}
 use Rattle.html_step.proofs.Clashing.{ClashIs, begun-grows, both-refuse, clash-is, has-unbegun, has-unquoted, unbegun-grows, white_first, white_second}
 use Rattle.html_step.proofs.PathScans.{scanned}
 use Rattle.html_step.proofs.OneTexts.{Says, agrees-at, at-place, ends-at, one-text, says, stands-shown}
-use Rattle.html_step.proofs.ReadScans.{Takes, not-broken, read_style, read_turn, read_value, read-below, read-end, read-ok, read-taken, read-valid, scan_read, takes}
+use Rattle.html_step.proofs.ReadScans.{Takes, not-broken, read_style, read_turn, read_value, read-below, read-ok, read-taken, read-valid, scan_read, takes}
 use Rattle.html_step.proofs.ReadStates.{NonePending, Unknown, byte-shown, open-parts, own-place, read-state, shown-read, unknown, url-before}
 use Rattle.html_step.proofs.ScanOrder.{ScanBelow, ScanValid, scan-grows, style-place-below}
 use Rattle.html_step.proofs.StyleOrder.{styles-beside}
@@ -59,7 +59,6 @@ use Rattle.html_step.proofs.ValidSteps.{scan-valid}
 use Rattle.html_step.proofs.WholeTexts.{accepts-anywhere, end-ok, grows-from, grows-text, step-ok, text-steps}
 use Rattle.url_lexer.specs.Parts.{UrlOpen}
 use Rattle.url_lexer.specs.Prefixes as spelling
-use Rattle.url_lexer.specs.States.{Url}
 use Rattle.url_lexer.specs.Triples.{Triple, NoTriple, AfterPercent, AfterDigit}
 use Rattle.url_step.specs.PartSets.{PartsBelow}
 
@@ -125,7 +124,7 @@ read-none _ b bs p = tt
 below-none : (g f : Scan) (b : ℕ) (bs : List ℕ) → ScanBelow g f → NonePending f (b ∷ bs) → NonePending g (b ∷ bs)
 below-none (InStyleElement n x) f b bs l p =
     under-element (λ y. NonePending y (b ∷ bs) → NonePending (InStyleElement n x) (b ∷ bs)) n x f l (λ m i e. e)
-    (λ d j i e. ap (λ (y : Pending). pending_left y (b ∷ bs)) j) p
+    (λ d j i e. ap (λ (y : Pending). pending_left element.Style y (b ∷ bs)) j) p
 below-none _ f b bs l p = tt
 
 pub reads : (s : LexState ValueState) (g f : Scan) (b : ℕ) (bs : List ℕ) → scanned s ≡ Some g → ScanValid g → ScanValid f → Takes f b → ScanBelow g f
@@ -173,9 +172,9 @@ apart-at s t g h f b bs x y n a =
 -- In the element, where bytes are pending, the two places are below one, and with these bytes no paths come apart.
 own-shown : (s : LexState ValueState) (n m : StyleScan) (k : Pending) (b : ℕ) (bs : List ℕ) (own : Place) → scanned s ≡ Some (InStyleElement n k)
     → StyleScanBelow n m → scan_error (InStyleElement m k) (class_of b) b ≡ None → place_before_bytes s (b ∷ bs) ≡ Some own
-    → Below own (scan_place (InStyleElement m (pending_left k (b ∷ bs))))
+    → Below own (scan_place (InStyleElement m (pending_left element.Style k (b ∷ bs))))
 own-shown s n m k b bs own i l e h =
-    let left = pending_bytes (pending_left k (b ∷ bs)) in
+    let left = pending_bytes (pending_left element.Style k (b ∷ bs)) in
     let taken = stands-shown (InStyleElement m k) (b ∷ bs) tt (subst StandsHere (sym e) tt) in
     let fed = fed-beside styles-beside left true (length left) n m l taken in
     let low = feed_bytes style_feeding n left in
@@ -187,16 +186,16 @@ own-shown s n m k b bs own i l e h =
 
 own-under : (s : LexState ValueState) (g : Scan) (m : StyleScan) (k : Pending) (b : ℕ) (bs : List ℕ) (own : Place) → scanned s ≡ Some g
     → ScanBelow g (InStyleElement m k) → scan_error (InStyleElement m k) (class_of b) b ≡ None → place_before_bytes s (b ∷ bs) ≡ Some own
-    → Below own (scan_place (InStyleElement m (pending_left k (b ∷ bs))))
+    → Below own (scan_place (InStyleElement m (pending_left element.Style k (b ∷ bs))))
 own-under s g m k b bs own i l e h =
-    below-element (λ x. scanned s ≡ Some x → Below own (scan_place (InStyleElement m (pending_left k (b ∷ bs))))) m k
+    below-element (λ x. scanned s ≡ Some x → Below own (scan_place (InStyleElement m (pending_left element.Style k (b ∷ bs))))) m k
     (λ n j u. own-shown s n m k b bs own u j e h) g l i
 
 element-met : (s t : LexState ValueState) (g h : Scan) (m : StyleScan) (k : Pending) (b : ℕ) (bs : List ℕ) (p : Parts) → scanned s ≡ Some g → scanned t ≡ Some h
     → ScanBelow g (InStyleElement m k) → ScanBelow h (InStyleElement m k) → scan_error (InStyleElement m k) (class_of b) b ≡ None
     → style_scan_parts m ≡ Some p → ApartBefore (b ∷ bs) s t → is_apart (Some p) ≡ true
 element-met s t g h m k b bs p i j l n e u a =
-    let left = pending_left k (b ∷ bs) in
+    let left = pending_left element.Style k (b ∷ bs) in
     let there = two-below a.own a.other_own (scan_place (InStyleElement m left)) (own-under s g m k b bs a.own i l e a.stands)
     (own-under t h m k b bs a.other_own j n e a.other_stands) a.apart in
     of-differs p.opened (sym (scan-opened m p u) ∙ element-apart left m there)
@@ -212,6 +211,7 @@ met-at s t g h (At z) b bs x y i j l n e a = apart-at s t g h (At z) b bs x y tt
 met-at s t g h (InUrl v z r) b bs x y i j l n e a = apart-at s t g h (InUrl v z r) b bs x y tt a
 met-at s t g h (InStyle v z r) b bs x y i j l n e a = apart-at s t g h (InStyle v z r) b bs x y tt a
 met-at s t g h (InScript v z r) b bs x y i j l n e a = apart-at s t g h (InScript v z r) b bs x y tt a
+met-at s t g h (InScriptElement z r) b bs x y i j l n e a = apart-at s t g h (InScriptElement z r) b bs x y tt a
 met-at s t g h AfterLess b bs x y i j l n e a = apart-at s t g h AfterLess b bs x y tt a
 met-at s t g h AfterLessSolidus b bs x y i j l n e a = apart-at s t g h AfterLessSolidus b bs x y tt a
 met-at s t g h (InDeclaration z) b bs x y i j l n e a = apart-at s t g h (InDeclaration z) b bs x y tt a
@@ -230,16 +230,20 @@ unknown-accepted bytes k since s f q u x o h =
     (subst (λ (r : Result Place PathRefusal). Says r 0 nothing_read bytes (unknown_beginning s)) a.1 (says bytes 0 nothing_read (unknown_beginning s) u.scan u.at (nil-fits (unknown_beginning s)))).0 h
 
 -- At the end of a text the place is above those of paths that are apart there. In a script none is.
-script-sides : (t : Tag) (q : Quotes) (o : Option Spot) (a : Place) → value_spot t q (option_map (λ p. body.Js (script_place p)) o) ≡ Some a
+script-sides : (t : Tag) (q : Quotes) (o : Option Js) (a : Place) → value_spot t q (option_map body.Js o) ≡ Some a
     → is_some (beginning_at a) ≡ true → ⊥
-script-sides t q (Some p) a e h =
-    no (ap (λ (x : Place). is_some (beginning_at x)) (one_value (place.Value (record { tag = t.tag; typed = t.typed; quotes = q; body = body.Js (script_place p) })) a e) ∙ h)
+script-sides t q (Some j) a e h =
+    no (ap (λ (x : Place). is_some (beginning_at x)) (one_value (place.Value (record { tag = t.tag; typed = t.typed; quotes = q; body = body.Js j })) a e) ∙ h)
 script-sides t q None a e h = absurd (none_some a e)
+
+element-side : (o : Option Js) (a : Place) → option_map place.Script o ≡ Some a → is_some (beginning_at a) ≡ true → ⊥
+element-side (Some j) a e h = no (ap (λ (x : Place). is_some (beginning_at x)) (one_value (place.Script j) a e) ∙ h)
+element-side None a e h = none_some a e
 
 script-value-side : (t : Tag) (q : Quotes) (v : Value ValueState) (bytes : List ℕ) (s : ScriptState) → v ≡ ValueOf (OfScript s) → (a : Place)
     → value_spot t q (value_body_before v) ≡ Some a → is_some (beginning_at a) ≡ true → ⊥
 script-value-side t q v bytes s d a e h =
-    script-sides t q (spot_before s) a (sym (ap (λ (x : Value ValueState). value_spot t q (value_body_before x)) d) ∙ e) h
+    script-sides t q (script_js_before s) a (sym (ap (λ (x : Value ValueState). value_spot t q (value_body_before x)) d) ∙ e) h
 
 script-bytes : (bytes : List ℕ) (s : ScriptState) → (r : ScriptState) × (with_bytes languages (ValueOf (OfScript s)) bytes ≡ ValueOf (OfScript r))
 script-bytes [] s = (s, refl)
@@ -281,7 +285,11 @@ before-side (AttributeValue q t (ValueOf (OfKind k)) r) a e h = ap (value_spot t
 before-side (AttributeValue q t (ValueOf (OfUrl u)) r) a e h = ap (value_spot t (quotes_at q)) (sym (before-cut (as_it_stands r) (ValueOf (OfUrl u)) tt)) ∙ before-whole q t (ValueOf (OfUrl u)) r a e
 before-side (AttributeValue q t (ValueOf (OfStyle v)) r) a e h = ap (value_spot t (quotes_at q)) (sym (before-cut (as_it_stands r) (ValueOf (OfStyle v)) tt)) ∙ before-whole q t (ValueOf (OfStyle v)) r a e
 before-side (AttributeValue q t (Deciding k before) r) a e h = ap (value_spot t (quotes_at q)) (sym (before-cut (as_it_stands r) (Deciding k before) tt)) ∙ before-whole q t (Deciding k before) r a e
-before-side (InContent x (InLanguage v) y) a e h = e
+before-side (InContent x (InLanguage (OfScript v)) y) a e h =
+    absurd (element-side (script_js_before (script_read element_script v (pending_bytes y))) a e h)
+before-side (InContent x (InLanguage (OfKind k)) y) a e h = e
+before-side (InContent x (InLanguage (OfUrl u)) y) a e h = e
+before-side (InContent x (InLanguage (OfStyle v)) y) a e h = e
 before-side (InContent x (Characters r) y) a e h = e
 before-side (InContent x Bytes y) a e h = e
 before-side _ a e h = e
@@ -333,8 +341,8 @@ never-clashes [] k since f q s t g h e at i j v w l m z p o c = c
 never-clashes (b ∷ bs) k since f q s t g h e zero i j v w l m z p o c = no-clash s t g h f (class_of b) b e i j l m (step-ok k since b bs f q o).0 c
 never-clashes (b ∷ bs) k since f q s t g h e (suc at) i j v w l m z p o c =
     let n = step-ok k since b bs f q o in
-    let x = scan-grows g f (class_of b) b v l n.0 in
-    let y = scan-grows h f (class_of b) b w m n.0 in
+    let x = scan-grows g f (class_of b) b refl v l n.0 in
+    let y = scan-grows h f (class_of b) b refl w m n.0 in
     let after = next languages Template s (class_of b) b in
     let other = next languages Template t (class_of b) b in
     let i = (agrees-at s g b i).steps x.0 in

@@ -4,12 +4,12 @@ use Rattle.js_lexer.specs.States.{At as ScriptAt, InRegexp, InString, Slash}
 use Rattle.place_core.specs.declared.js_tails.JsTails.{JsTails}
 use Rattle.place_core.specs.declared.senses.Senses.{Senses}
 use Rattle.js_step.specs.ScriptOrigins.{script_set_at, script_set_has}
-use Rattle.std.proofs.Common.{◌≡◌, ℕ, ◌+◌, Bool, true, false, ◌||◌, List, [], ◌∷◌, ◌++◌, length, arith, Option, Some, None, Ok, is_some, option_map, if◌then◌else◌, refl, sym, ap, ap₂, ◌∙◌, subst, ◌⊎◌, inl, inr}
+use Rattle.std.proofs.Common.{◌≡◌, ℕ, ◌+◌, Bool, true, false, ◌||◌, List, [], ◌∷◌, ◌++◌, length, Option, Some, None, Ok, is_some, option_map, if◌then◌else◌, refl, sym, ap, ap₂, ◌∙◌, subst, ◌⊎◌, inl, inr}
 use Rattle.place_core.specs.page.Classes.{is_equals_sign, class_of}
 use Rattle.place_core.specs.page.Contents.{pending_bytes}
 use Rattle.place_core.specs.page.Html.{next}
 use Rattle.place_core.specs.page.References.{Reference, Closed, Open, Form, ReferenceStep, Grows, Closes, Breaks, turn, flushed, plain_bytes, next_reference, as_it_stands, reference_turned, turn_bytes}
-use Rattle.place_core.specs.page.States.{Template, LexState, Text, TagOpen, EndTagOpen, DeclarationOpen, Started, StartedDash, Inside, Dash, DashDash, Bang, Broken, InComment, BogusComment, InDoctype, TagName, WholeTagName, BeforeAttributeName, AttributeName, WholeAttributeName, AfterAttributeName, BeforeAttributeValue, AttributeValue, AfterAttributeValue, SelfClosingStartTag, Characters, Bytes, InLanguage, Pending, Nothing, PendingLess, LessAtCut, PendingName, PendingBang, PendingBangDash, InContent, Unread}
+use Rattle.place_core.specs.page.States.{Template, LexState, Text, TagOpen, EndTagOpen, DeclarationOpen, Started, StartedDash, Inside, Dash, DashDash, Bang, Broken, InComment, BogusComment, InDoctype, TagName, WholeTagName, BeforeAttributeName, AttributeName, WholeAttributeName, AfterAttributeName, BeforeAttributeValue, AttributeValue, AfterAttributeValue, SelfClosingStartTag, Characters, Bytes, InLanguage, Pending, Nothing, PendingLess, LessAtCut, PendingName, PendingBang, PendingBangDash, PendingOpening, InContent}
 use Rattle.place_core.specs.page.Tags.{Quoting, Tag, is_second_type, ValueOf, Deciding, ValueState, OfKind, OfUrl, OfStyle, languages, feed_bytes, OfScript}
 use Rattle.place_core.specs.place.ApartPlaces.{HasApart, opened_apart, beginning_at, beginning_in_body, beginning_in_css, side, spell_apart}
 use Rattle.place_core.specs.place.Errors.{is_written, node, place_before_bytes, TextRead, nothing_read}
@@ -36,29 +36,28 @@ use Rattle.place_core.specs.declared.quotes.Quotes.{Quotes}
 use Rattle.place_core.specs.declared.quotes.Quotes.TheVariants as quotes
 use Rattle.place_core.specs.declared.value_place.ValuePlace.{ValuePlace}
 use Rattle.place_core.proofs.Semilattices.{none_some, one_value}
-use Rattle.html_scan.specs.Scans.{Scan, At, InAttributeName, InUrl, InStyle, InStyleElement, scan_reference, scan_error, scan_next, scan_place, parts_feeding, parts_with, style_feeding, with_body, with_style, InScript}
-use Rattle.js_lexer.specs.Spots.{Spot, script_spot}
+use Rattle.html_scan.specs.Scans.{Scan, At, InAttributeName, InUrl, InStyle, InStyleElement, scan_reference, scan_error, scan_next, scan_place, parts_feeding, parts_with, style_feeding, with_body, with_style, InScript, InScriptElement}
 use Rattle.js_lexer.specs.States.{ScriptState}
 use Rattle.js_step.specs.ScriptScans.{ScriptScan}
-use Rattle.place_core.specs.place.ScriptParts.{script_may_begin_text, script_place}
+use Rattle.place_core.specs.place.ScriptParts.{script_js}
 use Rattle.html_step.proofs.ScriptPaths.{kept_script_scanned}
 use Rattle.html_step.proofs.ScriptReads.{nil-fits}
 use Rattle.html_step.specs.Origins.{body_parts, byte_origin, fed_in, scan_parts}
 use Rattle.html_step.specs.Steps.{after_text, stepped, scan_read_behind}
-use Rattle.html_step.proofs.ApartParts.{Arise, arise-in, inside-bytes, is_inside, mapped-some, of-differs, opens-apart, several-apart, waits, apart-inside}
+use Rattle.html_step.proofs.ApartParts.{Arise, arise-in, inside-bytes, is_inside, mapped-some, of-differs, opens-apart, waits, apart-inside}
 use Rattle.html_step.proofs.EndsApart.{end-apart}
 use Rattle.html_step.proofs.MetScans.{ScanApart, ScanOpensNone, Stand, below-opens, next-stand, parts-apart, scan-opens, stand-in}
 use Rattle.html_step.proofs.ReadScans.{NotBroken, ReadTaken, Takes, broken-of, closed-taken, read-closed, read-taken, scan_read, takes}
 use Rattle.html_step.proofs.ReadStates.{UrlState, opens-of, own-place, read-between, read-shown, read-state, set-over, set-parts, shown-closed, url-of, with_set}
 use Rattle.html_step.proofs.RefusedColons.{ReadStays, broken-bytes, closed-open, fed-or, is_nothing, next-stays, none-pending, parts_where, plain-closed, read-is, read-parts, reference_where, scan-arises, stays-below, turn_read}
-use Rattle.html_step.proofs.Characters.{NoColon, IsCharacter, ampersand-no-letter, flushed-character, plain-character}
+use Rattle.html_step.proofs.Characters.{NoColon, IsCharacter, flushed-character, plain-character}
 use Rattle.html_step.proofs.ElementFrom.{has-place, place-has}
 use Rattle.html_step.proofs.ElementsBelow.{under-element}
 use Rattle.html_step.proofs.PendingScans.{below-pending, open-settled, read-settled, scan_pending, style-value-settled, value-settled}
 use Rattle.html_step.proofs.FromSteps.{from-byte}
 use Rattle.html_step.proofs.FromTexts.{own-has}
 use Rattle.html_step.proofs.KeptBeginnings.{before-begins, keeps-back, keeps-fore, before-none, begins-value, is_url_value, side-begins, sides-within, stays-there}
-use Rattle.html_step.proofs.PathScans.{block_scanned, content_scanned, element_scanned, scanned, style_element_scanned, style_value_scanned, url_value, script_there, script_unless_placed, script_value_scanned}
+use Rattle.html_step.proofs.PathScans.{block_scanned, content_scanned, element_scanned, scanned, style_element_scanned, style_value_scanned, url_value, script_there, script_unless_placed, script_value_scanned, WhereScanned, script_element_scanned}
 use Rattle.html_step.proofs.OneTexts.{Says, says}
 use Rattle.html_step.proofs.PlaceParts.{ValueBelow}
 use Rattle.html_step.proofs.ScanOrder.{ScanBelow, ScanHas, ScanValid, StyleUnderBody, UrlWithin, parts-of-below, under-body, url-within}
@@ -86,6 +85,8 @@ use Rattle.url_lexer.specs.TwoPaths.{is_open}
 use Rattle.url_lexer.specs.declared.class.UrlClass.{UrlClass}
 use Rattle.url_lexer.specs.declared.class.UrlClass.TheVariants as class
 use Rattle.url_step.specs.PartSets.{PartsBelow, first_spelled, next_spelled, parts_next, spells_apart}
+use Rattle.place_core.specs.declared.js.Js.{Js}
+use Rattle.html_step.proofs.ScriptElementSteps.{where-script-element}
 
 no : false ≡ true → ⊥
 no e = cc
@@ -133,7 +134,9 @@ block-none (PendingName letters) _ = refl
 block-none PendingBang element.DataBlock = refl
 block-none PendingBang _ = refl
 block-none PendingBangDash element.DataBlock = refl
+block-none (PendingOpening letters) element.DataBlock = refl
 block-none PendingBangDash _ = refl
+block-none (PendingOpening letters) _ = refl
 
 -- a style that is in no URL
 no-url : (v : Style Url) (n : StyleScan) → IsStyleScan v n → url_in_style v ≡ None → style_scan_parts n ≡ None
@@ -167,6 +170,7 @@ where-parts (PendingName letters) n t h = h
 where-parts LessAtCut n t h = absurd (none_some t h)
 where-parts PendingBang n t h = absurd (none_some t h)
 where-parts PendingBangDash n t h = absurd (none_some t h)
+where-parts (PendingOpening letters) n t h = absurd (none_some t h)
 
 where-closed : (p : Pending) (n : StyleScan) → reference_where (element_scanned p n) ≡ Closed
 where-closed Nothing n = element-closed-by n (is_style_start n)
@@ -175,6 +179,7 @@ where-closed (PendingName letters) n = refl
 where-closed LessAtCut n = refl
 where-closed PendingBang n = refl
 where-closed PendingBangDash n = refl
+where-closed (PendingOpening letters) n = refl
 
 no-url-there : (p : Pending) (v : Style Url) (t : Parts) (o : Option StyleScan) → style_scanned v ≡ o → url_in_style v ≡ None
     → parts_where (style_element_scanned p o) ≡ Some t → ⊥
@@ -186,15 +191,17 @@ no-url-kept : (q : Quoting) (x : Tag) (o : Option ScriptScan) (r : Reference) �
 no-url-kept q x (Some n) r = refl
 no-url-kept q x None r = refl
 
-no-url-placed : (q : Quoting) (x : Tag) (begins : Bool) (p : Option Spot) (o : Option ScriptScan)
-    → parts_where (script_unless_placed q x (if begins then option_map (λ (z : Spot). body.Js (script_place z)) p else None) o) ≡ None
-no-url-placed q x true (Some z) o = refl
-no-url-placed q x true None o = no-url-kept q x o Closed
-no-url-placed q x false p o = no-url-kept q x o Closed
+no-url-placed : (q : Quoting) (x : Tag) (p : Option Js) (o : Option ScriptScan) → parts_where (script_unless_placed q x (option_map body.Js p) o) ≡ None
+no-url-placed q x (Some j) o = refl
+no-url-placed q x None o = no-url-kept q x o Closed
 
 no-url-script : (q : Quoting) (x : Tag) (s : ScriptState) (r : Reference) → parts_where (script_value_scanned q x s r) ≡ None
-no-url-script q x s Closed = no-url-placed q x (script_may_begin_text s) (script_spot s) (kept_script_scanned s)
+no-url-script q x s Closed = no-url-placed q x (script_js s) (kept_script_scanned s)
 no-url-script q x s (Open f bytes) = no-url-kept q x (kept_script_scanned s) (Open f bytes)
+
+no-parts : (o : Option Scan) (t : Parts) → WhereScanned o (λ f. scan_parts f ≡ None) → parts_where o ≡ Some t → ⊥
+no-parts (Some f) t w h = none_some t (sym w ∙ h)
+no-parts None t w h = none_some t h
 
 url-path : (s : LexState ValueState) (t : Parts) → parts_where (scanned s) ≡ Some t → UrlPath s t
 url-path (Text r) t h = absurd (none_some t h)
@@ -282,8 +289,12 @@ url-path (InContent element.Style (InLanguage (OfStyle (Out s))) p) t h = absurd
 url-path (InContent element.Style (InLanguage (OfKind k)) p) t h = absurd (none_some t h)
 url-path (InContent element.Style (InLanguage (OfScript k)) p) t h = absurd (none_some t h)
 url-path (InContent element.Style (InLanguage (OfUrl u)) p) t h = absurd (none_some t h)
+url-path (InContent element.Script (InLanguage (OfScript s)) p) t h =
+    absurd (no-parts (script_element_scanned p s) t (where-script-element p s (λ f. scan_parts f ≡ None) (λ j e i. refl) (λ n i. refl)) h)
+url-path (InContent element.Script (InLanguage (OfKind k)) p) t h = absurd (none_some t h)
+url-path (InContent element.Script (InLanguage (OfUrl u)) p) t h = absurd (none_some t h)
+url-path (InContent element.Script (InLanguage (OfStyle s)) p) t h = absurd (none_some t h)
 url-path (InContent _ (InLanguage v) p) t h = absurd (none_some t h)
-url-path Unread t h = absurd (none_some t h)
 
 pub path-parts : (s : LexState ValueState) (g : Scan) (t : Parts) → scanned s ≡ Some g → scan_parts g ≡ Some t → UrlPath s t
 path-parts s g t e h = url-path s t (ap parts_where e ∙ h)
@@ -892,6 +903,7 @@ end-has (InStyle x k r) (At _) w l h y = absurd l.0
 end-has (InStyle x k r) _ w l h y = absurd l
 end-has (InStyleElement k x) f w l h y = element-has k x f l h y
 end-has (InAttributeName t x n) f w l h k = absurd (no k)
+end-has (InScriptElement n x) f w l h k = absurd (no (sym (script-open quotes.Dq n) ∙ k))
 end-has (InScript x n r) f w l h k = absurd (no (sym (script-open x.quotes n) ∙ k))
 end-has _ f w l h k = absurd (no k)
 
@@ -918,7 +930,7 @@ comes-from (b ∷ bs) k since f q o v w e a =
     let v2 = scan-valid f c b v n.0 in
     elim (comes-from bs (k + 1) (scan_read_behind k since f (class_of b) b) f2 q (scan-opens f b o) v2 (scan-plain f b w) n.1 a) [
       | inl m ↦ apart-before (scan_parts f) f b bs refl o v w n.0 m.0 m.1
-      | inr m ↦ (let x = from-byte f c b m.0 v n.0 m.2 in let z = from-byte f c b m.1 v n.0 m.3 in
+      | inr m ↦ (let x = from-byte f c b m.0 refl v n.0 m.2 in let z = from-byte f c b m.1 refl v n.0 m.3 in
           inr (
             byte_origin f c b m.0,
             byte_origin f c b m.1,

@@ -10,8 +10,13 @@ use Rattle.place_core.specs.declared.tag_of.TagOf.{TagOf}
 use Rattle.place_core.specs.declared.tag_place.TagPlace.{TagPlace}
 use Rattle.place_core.specs.declared.value_place.ValuePlace.{ValuePlace}
 use Rattle.place_core.proofs.Semilattices.{none_some, one_value}
-use Rattle.html_scan.specs.Scans.{Scan, At, AfterLess, AfterLessSolidus, InDeclaration, InTagName, InAttributeName, InUrl, InStyle, InScript, InStyleElement, InCommentEnd, InContentEnd, BeforeType, InType}
+use Rattle.html_scan.specs.Scans.{Scan, At, AfterLess, AfterLessSolidus, InDeclaration, InTagName, InAttributeName, InUrl, InStyle, InScript, InScriptElement, InStyleElement, InCommentEnd, InContentEnd, BeforeType, InType}
 use Rattle.html_step.proofs.ElementsBelow.{ElementUnderPlace}
+use Rattle.html_step.proofs.JsPlaces.{under-script}
+use Rattle.html_step.proofs.ScriptElementOrder.{DoesAlike}
+use Rattle.html_step.proofs.ScriptOrder.{ScriptUnder}
+use Rattle.js_step.specs.ScriptSetLaws.{ScriptBelow}
+use Rattle.place_core.specs.declared.js.Js.{Js}
 use Rattle.html_step.proofs.ScanOrder.{ScanBelow, ScanHas, ScriptValueBelow, StyleUnderPlace, StyleValueBelow, Unstyled, comment-one, style-below-place, under-body}
 use Rattle.html_step.proofs.PlaceParts.{Under, TagBelow, ValueBelow, below-tag, below-value, below-rcdata}
 use Rattle.place_core.specs.page.References.{Reference, Closed}
@@ -39,6 +44,7 @@ whole-in (BeforeType t) y e = e
 whole-in (InType t q v r) y e = e
 whole-in (InStyle v s r) y e = rw e refl
 whole-in (InScript v s r) y e = rw e refl
+whole-in (InScriptElement s h) y e = rw e refl
 
 -- below a place are places, and below one of a style also lexemes of it
 pub below-at : (P : Scan → Type 0) (p : Place) → ((a : Place) → Below a p → P (At a)) → ((v : ValuePlace) (n : StyleScan) → StyleUnderPlace v n p → P (InStyle v n Closed))
@@ -50,6 +56,7 @@ below-at P p f k j (InStyle v n r) h = subst (λ (z : Reference). P (InStyle v n
 below-at P p f k j (InAttributeName t x n) h = absurd h
 below-at P p f k j (InUrl v t r) h = absurd h
 below-at P p f k j (InScript v n r) h = absurd h
+below-at P p f k j (InScriptElement n x) h = absurd h
 below-at P p f k j AfterLess h = cc
 below-at P p f k j AfterLessSolidus h = cc
 below-at P p f k j (InDeclaration pending) h = cc
@@ -112,6 +119,7 @@ below-style P v m r f (InTagName ends name) h = cc
 below-style P v m r f (InCommentEnd s) h = cc
 below-style P v m r f (InContentEnd e x) h = cc
 below-style P v m r f (InStyleElement e x) h = absurd h
+below-style P v m r f (InScriptElement m1 m2) h = absurd h
 below-style P v m r f (BeforeType u) h = cc
 below-style P v m r f (InType u q w z) h = cc
 
@@ -123,6 +131,7 @@ below-script P v m r f (At p) h = absurd h
 below-script P v m r f (InAttributeName t x n) h = absurd h
 below-script P v m r f (InUrl u t z) h = absurd h
 below-script P v m r f (InStyle u n z) h = absurd h
+below-script P v m r f (InScriptElement m1 m2) h = absurd h
 below-script P v m r f AfterLess h = cc
 below-script P v m r f AfterLessSolidus h = cc
 below-script P v m r f (InDeclaration pending) h = cc
@@ -183,6 +192,7 @@ less-rigid (InTagName ends name) h = h
 less-rigid (InCommentEnd s) h = h
 less-rigid (InContentEnd e x) h = h
 less-rigid (InStyleElement e x) h = absurd h
+less-rigid (InScriptElement m1 m2) h = absurd h
 less-rigid (BeforeType u) h = h
 less-rigid (InType u q v r) h = h
 less-rigid (InStyle u k d) h = absurd h
@@ -199,6 +209,7 @@ solidus-rigid (InTagName ends name) h = h
 solidus-rigid (InCommentEnd s) h = h
 solidus-rigid (InContentEnd e x) h = h
 solidus-rigid (InStyleElement e x) h = absurd h
+solidus-rigid (InScriptElement m1 m2) h = absurd h
 solidus-rigid (BeforeType u) h = h
 solidus-rigid (InType u q v r) h = h
 solidus-rigid (InStyle u k d) h = absurd h
@@ -215,6 +226,7 @@ declaration-rigid l (InTagName ends name) h = h
 declaration-rigid l (InCommentEnd s) h = h
 declaration-rigid l (InContentEnd e x) h = h
 declaration-rigid l (InStyleElement e x) h = absurd h
+declaration-rigid l (InScriptElement m1 m2) h = absurd h
 declaration-rigid l (BeforeType u) h = h
 declaration-rigid l (InType u q v r) h = h
 declaration-rigid l (InStyle u k d) h = absurd h
@@ -231,6 +243,7 @@ tag-name-rigid z l (InTagName ends name) h = h
 tag-name-rigid z l (InCommentEnd s) h = h
 tag-name-rigid z l (InContentEnd e x) h = h
 tag-name-rigid z l (InStyleElement e x) h = absurd h
+tag-name-rigid z l (InScriptElement m1 m2) h = absurd h
 tag-name-rigid z l (BeforeType u) h = h
 tag-name-rigid z l (InType u q v r) h = h
 tag-name-rigid z l (InStyle u k d) h = absurd h
@@ -247,6 +260,7 @@ comment-end-rigid z (InTagName ends name) h = h
 comment-end-rigid z (InCommentEnd s) h = h
 comment-end-rigid z (InContentEnd e x) h = h
 comment-end-rigid z (InStyleElement e x) h = absurd h
+comment-end-rigid z (InScriptElement m1 m2) h = absurd h
 comment-end-rigid z (BeforeType u) h = h
 comment-end-rigid z (InType u q v r) h = h
 comment-end-rigid z (InStyle u k d) h = absurd h
@@ -263,6 +277,7 @@ content-end-rigid z l (InTagName ends name) h = h
 content-end-rigid z l (InCommentEnd s) h = h
 content-end-rigid z l (InContentEnd e x) h = h
 content-end-rigid z l (InStyleElement e x) h = absurd h
+content-end-rigid z l (InScriptElement m1 m2) h = absurd h
 content-end-rigid z l (BeforeType u) h = h
 content-end-rigid z l (InType u q v r) h = h
 content-end-rigid z l (InStyle u k d) h = absurd h
@@ -279,6 +294,7 @@ before-type-rigid t (InTagName ends name) h = h
 before-type-rigid t (InCommentEnd s) h = h
 before-type-rigid t (InContentEnd e x) h = h
 before-type-rigid t (InStyleElement e x) h = absurd h
+before-type-rigid t (InScriptElement m1 m2) h = absurd h
 before-type-rigid t (BeforeType u) h = h
 before-type-rigid t (InType u q v r) h = h
 before-type-rigid t (InStyle u k d) h = absurd h
@@ -295,6 +311,7 @@ type-rigid t o w c (InTagName ends name) h = h
 type-rigid t o w c (InCommentEnd s) h = h
 type-rigid t o w c (InContentEnd e x) h = h
 type-rigid t o w c (InStyleElement e x) h = absurd h
+type-rigid t o w c (InScriptElement m1 m2) h = absurd h
 type-rigid t o w c (BeforeType u) h = h
 type-rigid t o w c (InType u q v r) h = h
 type-rigid t o w c (InStyle u k d) h = absurd h
@@ -331,6 +348,7 @@ below-attribute P t y n f (InTagName ends name) h = cc
 below-attribute P t y n f (InCommentEnd s) h = cc
 below-attribute P t y n f (InContentEnd e x) h = cc
 below-attribute P t y n f (InStyleElement e x) h = absurd h
+below-attribute P t y n f (InScriptElement m1 m2) h = absurd h
 below-attribute P t y n f (BeforeType u) h = cc
 below-attribute P t y n f (InType u q v r) h = cc
 below-attribute P t y n f (InStyle u k d) h = absurd h
@@ -350,6 +368,7 @@ below-url P v t r f (InTagName ends name) h = cc
 below-url P v t r f (InCommentEnd s) h = cc
 below-url P v t r f (InContentEnd e x) h = cc
 below-url P v t r f (InStyleElement e x) h = absurd h
+below-url P v t r f (InScriptElement m1 m2) h = absurd h
 below-url P v t r f (BeforeType u) h = cc
 below-url P v t r f (InType u q x z) h = cc
 below-url P v t r f (InStyle u k d) h = absurd h
@@ -371,6 +390,7 @@ below-element P m x f (InContentEnd e y) h = cc
 below-element P m x f (BeforeType u) h = cc
 below-element P m x f (InType u q w z) h = cc
 below-element P m x f (InStyle u k d) h = absurd h
+below-element P m x f (InScriptElement m1 m2) h = absurd h
 below-element P m x f (InScript u k d) h = absurd h
 
 -- and a place in it
@@ -388,3 +408,27 @@ element-place P d f (place.Block x) h = absurd (none_some (place.Style d) h)
 pub below-at-style : (P : Scan → Type 0) (d : Css) → ((c : Css) → StyleBelow c d → P (At (place.Style c)))
     → ((n : StyleScan) → StyleScanBelow n (style_scan_start d) → P (InStyleElement n Nothing)) → (g : Scan) → ScanBelow g (At (place.Style d)) → P g
 below-at-style P d f k g h = below-at P (place.Style d) (element-place P d f) (λ v n u. absurd u) (λ n u. k n u) g h
+
+-- in the element `script`: behind a byte of the text, and a place
+pub below-script-element : (P : Scan → Type 0) (m : ScriptScan) (x : Pending) → ((n : ScriptScan) → ScriptUnder n m → DoesAlike n m x → P (InScriptElement n x))
+    → (g : Scan) → ScanBelow g (InScriptElement m x) → P g
+below-script-element P m x f (InScriptElement n z) h = subst (λ (y : Pending). P (InScriptElement n y)) (sym h.1) (f n h.0 h.2)
+below-script-element P m x f (InStyleElement n z) h = absurd h
+below-script-element P m x f (At p) h = absurd h
+below-script-element P m x f (InAttributeName t y n) h = absurd h
+below-script-element P m x f (InUrl u t z) h = absurd h
+below-script-element P m x f AfterLess h = cc
+below-script-element P m x f AfterLessSolidus h = cc
+below-script-element P m x f (InDeclaration pending) h = cc
+below-script-element P m x f (InTagName ends name) h = cc
+below-script-element P m x f (InCommentEnd s) h = cc
+below-script-element P m x f (InContentEnd e y) h = cc
+below-script-element P m x f (BeforeType u) h = cc
+below-script-element P m x f (InType u q w z) h = cc
+below-script-element P m x f (InStyle u k d) h = absurd h
+below-script-element P m x f (InScript u k d) h = absurd h
+
+pub below-at-script-place : (P : Scan → Type 0) (d : Js) → ((c : Js) → ScriptBelow c d → P (At (place.Script c))) → (g : Scan)
+    → ScanBelow g (At (place.Script d)) → P g
+below-at-script-place P d f g h =
+    below-at P (place.Script d) (under-script (λ (a : Place). P (At a)) d f) (λ v n u. absurd u) (λ n u. absurd u) g h

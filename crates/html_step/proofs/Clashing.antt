@@ -10,7 +10,7 @@ use Rattle.place_core.specs.place.LanguagePlaces.{css_has, parts_have, js_has}
 use Rattle.place_core.specs.place.Places.{Has, block_has, body_has, dash_has, is_whole, joined_quotes, quotes_have, spots_have, typed_has}
 use Rattle.place_core.specs.place.StatePlaces.{only_after, only_before, only_inside, only_name, quotes_at, tag_spot, unbegun}
 use Rattle.place_core.specs.place.UrlParts.{parts_of}
-use Rattle.place_core.specs.page.States.{LexState, Text, TagOpen, EndTagOpen, DeclarationOpen, InComment, Inside, Broken, BogusComment, InDoctype, TagName, WholeTagName, BeforeAttributeName, AttributeName, WholeAttributeName, AfterAttributeName, BeforeAttributeValue, AttributeValue, AfterAttributeValue, SelfClosingStartTag, Characters, Bytes, InLanguage, Pending, Nothing, PendingLess, PendingName, PendingBang, PendingBangDash, InContent, Unread, LessAtCut}
+use Rattle.place_core.specs.page.States.{LexState, Text, TagOpen, EndTagOpen, DeclarationOpen, InComment, Inside, Broken, BogusComment, InDoctype, TagName, WholeTagName, BeforeAttributeName, AttributeName, WholeAttributeName, AfterAttributeName, BeforeAttributeValue, AttributeValue, AfterAttributeValue, SelfClosingStartTag, Characters, Bytes, InLanguage, Pending, Nothing, PendingLess, PendingName, PendingBang, PendingBangDash, PendingOpening, InContent, LessAtCut}
 use Rattle.place_core.specs.page.Tags.{Value, ValueOf, Deciding, ValueState, OfKind, OfUrl, OfStyle, Quoting, DoubleQuoted, SingleQuoted, Unquoted, Tag, is_second_type, OfScript}
 use Rattle.place_core.specs.declared.body.Body.{Body}
 use Rattle.place_core.specs.declared.body.Body.TheVariants as body
@@ -34,13 +34,12 @@ use Rattle.place_core.specs.declared.tag_place.TagPlace.{TagPlace}
 use Rattle.place_core.specs.declared.value_place.ValuePlace.{ValuePlace}
 use Rattle.place_core.proofs.JoinMembers.{the_has_grows}
 use Rattle.place_core.proofs.Semilattices.{none_some}
-use Rattle.html_scan.specs.Scans.{Scan, At, AfterLess, AfterLessSolidus, InDeclaration, InTagName, InAttributeName, InUrl, InStyle, InStyleElement, InCommentEnd, InContentEnd, scan_error, url_scan, value_cause, body_cause, BeforeType, InType, quoted_error, style_cause, style_feeding, InScript, script_cause, script_feeding}
-use Rattle.js_lexer.specs.Spots.{Spot, script_spot}
+use Rattle.html_scan.specs.Scans.{Scan, At, AfterLess, AfterLessSolidus, InDeclaration, InTagName, InAttributeName, InUrl, InStyle, InStyleElement, InCommentEnd, InContentEnd, scan_error, url_scan, value_cause, body_cause, BeforeType, InType, quoted_error, style_cause, style_feeding, InScript, InScriptElement, script_cause, script_feeding}
 use Rattle.js_lexer.specs.States.{ScriptState}
 use Rattle.js_lexer.specs.declared.sense.Sense.TheVariants as sense
 use Rattle.js_step.specs.ScriptOrigins.{script_set_has}
 use Rattle.js_step.specs.ScriptScans.{ScriptScan}
-use Rattle.place_core.specs.place.ScriptParts.{script_may_begin_text, script_no_tails, script_place, script_senses}
+use Rattle.place_core.specs.place.ScriptParts.{script_no_tails, script_js, script_senses}
 use Rattle.html_step.proofs.FromParts.{or-behind, or-either, or-first}
 use Rattle.html_step.proofs.ScriptFrom.{IsScriptMember, js-is, set-is}
 use Rattle.html_step.proofs.ScriptPaths.{kept_script_scanned, script_value}
@@ -62,7 +61,8 @@ use Rattle.place_core.specs.declared.css.Css.TheVariants as css
 use Rattle.url_lexer.specs.States.{Url}
 use Rattle.html_step.proofs.FedAlike.{first-caused}
 use Rattle.html_step.proofs.ElementFrom.{element-out}
-use Rattle.html_step.proofs.PathScans.{WhereScanned, block_scanned, content_scanned, language_scanned, scanned, style_element_scanned, style_value_scanned, none-at-hand, some, url_value, script_there, script_unless_placed, script_value_scanned}
+use Rattle.html_step.proofs.ScriptElementSteps.{where-script-element}
+use Rattle.html_step.proofs.PathScans.{WhereScanned, block_scanned, content_scanned, language_scanned, scanned, style_element_scanned, style_value_scanned, none-at-hand, url_value, script_there, script_unless_placed, script_value_scanned}
 use Rattle.html_step.proofs.FromSteps.{or-false}
 use Rattle.url_lexer.specs.Parts.{UrlPart, UrlStart, UrlOpen}
 use Rattle.url_lexer.specs.TwoPaths.{is_open}
@@ -142,6 +142,7 @@ no-content m o (PendingName l) element.Textarea = λ h. no-whole m o h
 no-content m o LessAtCut e = tt
 no-content m o PendingBang e = tt
 no-content m o PendingBangDash e = tt
+no-content m o (PendingOpening l) e = tt
 no-content m o Nothing _ = tt
 no-content m o PendingLess _ = tt
 no-content m o (PendingName l) _ = tt
@@ -159,6 +160,7 @@ no-block m o PendingLess _ = tt
 no-block m o (PendingName l) _ = tt
 no-block m o PendingBang _ = tt
 no-block m o PendingBangDash _ = tt
+no-block m o (PendingOpening l) e = tt
 
 -- nor in the content of an element that a language reads
 abbrev IsNoValue : LexState ValueState → Type 0
@@ -192,7 +194,6 @@ no-value-in m o (SelfClosingStartTag t) n = λ h. in-tag m o (tag_spot t only_be
 no-value-in m o (InContent e (Characters r) p) n = no-content m o p e
 no-value-in m o (InContent e Bytes p) n = no-block m o p e
 no-value-in m o (InContent e (InLanguage v) p) n = absurd n
-no-value-in m o Unread n = tt
 
 no-value : (m : Member) → OfValue m → (s : LexState ValueState) (g : Scan) → IsNoValue s → scanned s ≡ Some g → ScanHas g m → ⊥
 no-value m o s g n e h = subst (λ (x : Option Scan). WhereScanned x (Lacks m)) e (no-value-in m o s n) h
@@ -241,6 +242,9 @@ script-less : (m : Member) → OfValue m → (q : Quotes) (x : Bool) → (x ≡ 
 script-less m o q x f h =
     or-either ((quotes_have q m || false) ≡ true) (quotes_have q m) x h (λ k. or-first (quotes_have q m) false k) (λ k. absurd (o.script (f k)))
 
+no-script : (m : Member) → OfValue m → (x : Bool) → (x ≡ true → IsScriptMember m) → (is_whole m || x) ≡ true → ⊥
+no-script m o x f h = o.script (f (second-of (is_whole m) x o.whole h))
+
 js-less : (m : Member) → OfValue m → (t : Tag) (q : Quotes) (j : Js) → Has (place.Value (value-of t q (body.Js j))) m → (quotes_have q m || false) ≡ true
 js-less m o t q j h = script-less m o q (js_has j m) (λ k. js-is j m k) (of-place m o (value-of t q (body.Js j)) h)
 
@@ -273,16 +277,15 @@ script-there-in : (m : Member) → OfValue m → (q : Quoting) (t : Tag) (x : Op
 script-there-in m o q t (Some n) r = λ h. of-script m o (script_value t (quotes_at q)) n r h
 script-there-in m o q t None r = tt
 
-script-placed-in : (m : Member) → OfValue m → (q : Quoting) (t : Tag) (begins : Bool) (p : Option Spot) (x : Option ScriptScan)
-    → WhereScanned (script_unless_placed q t (if begins then option_map (λ (z : Spot). body.Js (script_place z)) p else None) x)
+script-placed-in : (m : Member) → OfValue m → (q : Quoting) (t : Tag) (p : Option Js) (x : Option ScriptScan)
+    → WhereScanned (script_unless_placed q t (option_map body.Js p) x)
     (λ f. ScanHas f m → (quotes_have (quotes_at q) m || false) ≡ true)
-script-placed-in m o q t true (Some z) x = λ h. js-less m o t (quotes_at q) (script_place z) h
-script-placed-in m o q t true None x = script-there-in m o q t x Closed
-script-placed-in m o q t false p x = script-there-in m o q t x Closed
+script-placed-in m o q t (Some j) x = λ h. js-less m o t (quotes_at q) j h
+script-placed-in m o q t None x = script-there-in m o q t x Closed
 
 script-value-in : (m : Member) → OfValue m → (q : Quoting) (t : Tag) (s : ScriptState) (r : Reference)
     → WhereScanned (script_value_scanned q t s r) (λ f. ScanHas f m → (quotes_have (quotes_at q) m || false) ≡ true)
-script-value-in m o q t s Closed = script-placed-in m o q t (script_may_begin_text s) (script_spot s) (kept_script_scanned s)
+script-value-in m o q t s Closed = script-placed-in m o q t (script_js s) (kept_script_scanned s)
 script-value-in m o q t s (Open f bytes) = script-there-in m o q t (kept_script_scanned s) (Open f bytes)
 
 value-in : (m : Member) → OfValue m → (q : Quoting) (t : Tag) (v : Value ValueState) (r : Reference)
@@ -318,6 +321,7 @@ element-in m o (PendingName letters) (Some n) = λ h. element-at m o n h
 element-in m o LessAtCut (Some n) = tt
 element-in m o PendingBang (Some n) = tt
 element-in m o PendingBangDash (Some n) = tt
+element-in m o (PendingOpening letters) (Some n) = tt
 element-in m o h None = tt
 
 abbrev language_has : ValueState → Member → Bool
@@ -330,6 +334,12 @@ language-in m o element.Style (OfStyle s) h = element-in m o h (style_scanned s)
 language-in m o element.Style (OfKind k) h = tt
 language-in m o element.Style (OfUrl u) h = tt
 language-in m o element.Style (OfScript s) h = tt
+language-in m o element.Script (OfScript s) h =
+    where-script-element h s (λ f. ScanHas f m → false ≡ true) (λ j e i. λ k. absurd (no-script m o (js_has j m) (js-is j m) k))
+    (λ n i. λ k. absurd (no-script m o (script_set_has n m) (set-is n m) k))
+language-in m o element.Script (OfKind k) h = tt
+language-in m o element.Script (OfUrl u) h = tt
+language-in m o element.Script (OfStyle s) h = tt
 language-in m o _ v h = tt
 
 language-bears : (m : Member) → OfValue m → (e : Element) (v : ValueState) (p : Pending) (g : Scan) → scanned (InContent e (InLanguage v) p) ≡ Some g
@@ -567,15 +577,14 @@ script-there-unquoted : (t : Tag) (x : Option ScriptScan) (r : Reference) → Wh
 script-there-unquoted t (Some n) r = refl
 script-there-unquoted t None r = tt
 
-script-placed-unquoted : (t : Tag) (begins : Bool) (p : Option Spot) (x : Option ScriptScan)
-    → WhereScanned (script_unless_placed Unquoted t (if begins then option_map (λ (z : Spot). body.Js (script_place z)) p else None) x)
+script-placed-unquoted : (t : Tag) (p : Option Js) (x : Option ScriptScan)
+    → WhereScanned (script_unless_placed Unquoted t (option_map body.Js p) x)
     (λ f. ScanHas f member.UnquotedValue)
-script-placed-unquoted t true (Some z) x = refl
-script-placed-unquoted t true None x = script-there-unquoted t x Closed
-script-placed-unquoted t false p x = script-there-unquoted t x Closed
+script-placed-unquoted t (Some j) x = refl
+script-placed-unquoted t None x = script-there-unquoted t x Closed
 
 script-unquoted : (t : Tag) (s : ScriptState) (r : Reference) → WhereScanned (script_value_scanned Unquoted t s r) (λ f. ScanHas f member.UnquotedValue)
-script-unquoted t s Closed = script-placed-unquoted t (script_may_begin_text s) (script_spot s) (kept_script_scanned s)
+script-unquoted t s Closed = script-placed-unquoted t (script_js s) (kept_script_scanned s)
 script-unquoted t s (Open f bytes) = script-there-unquoted t (kept_script_scanned s) (Open f bytes)
 
 unquoted-bears : (t : Tag) (v : ValueState) (r : Reference)
@@ -676,6 +685,7 @@ at-grows a (InScript v s r) m l h = absurd l
 at-grows a (InCommentEnd x) m l h = absurd l
 at-grows a (InContentEnd x y) m l h = absurd l
 at-grows a (InStyleElement x y) m l h = absurd l
+at-grows a (InScriptElement x y) m l h = absurd l
 at-grows a (BeforeType t) m l h = absurd l
 at-grows a (InType t q v r) m l h = absurd l
 
@@ -692,6 +702,7 @@ url-grows v t r (InScript w s z) m l h = absurd l
 url-grows v t r (InCommentEnd x) m l h = absurd l
 url-grows v t r (InContentEnd x y) m l h = absurd l
 url-grows v t r (InStyleElement x y) m l h = absurd l
+url-grows v t r (InScriptElement x y) m l h = absurd l
 url-grows v t r (BeforeType u) m l h = absurd l
 url-grows v t r (InType u q w z) m l h = absurd l
 
@@ -731,6 +742,7 @@ has-grows m o k (InUrl v t r) f l h = url-grows v t r f m l h
 has-grows m o k (InStyle v n r) f l h = style-grows v n r f m l (first-of (quotes_have v.quotes m) (scan_set_has n m) (k n) (of-style m o v n h))
 has-grows m o k (InScript v n r) f l h = script-grows v n r f m l (or-false (quotes_have v.quotes m) (of-script m o v n r h))
 has-grows m o k (InStyleElement n x) f l h = absurd (no (sym (k n) ∙ element-at m o n h))
+has-grows m o k (InScriptElement n x) f l h = absurd (no-script m o (script_set_has n m) (set-is n m) h)
 has-grows m o k (InAttributeName t typed name) f l h = absurd (no-value-has m o t typed name h)
 has-grows m o k _ f l h = absurd (no-whole m o h)
 
@@ -789,11 +801,12 @@ script-both v n r b h k o =
 
 pub both-refuse : (f : Scan) (b : ℕ) → ScanHas f member.UnquotedValue → ScanHas f member.UnbegunValue → scan_error f White b ≡ None → ⊥
 both-refuse (At (place.Value v)) b h k n = value-both v Closed b h k n
-both-refuse (At (place.Script j)) b h k n = some _ n
+both-refuse (At (place.Script j)) b h k n = js-is j member.UnquotedValue h
 both-refuse (At (place.Style j)) b h k n = no (sym (css-lacks j).0 ∙ h)
 both-refuse (At _) b h k n = no h
 both-refuse (InUrl v t r) b h k n = value-both v r b h k n
 both-refuse (InStyle v s r) b h k n = style-both v s r b h k n
 both-refuse (InScript v s r) b h k n = script-both v s r b h k n
 both-refuse (InStyleElement s x) b h k n = no (sym (set-lacks s).0 ∙ h)
+both-refuse (InScriptElement n x) b h k e = set-is n member.UnquotedValue h
 both-refuse _ b h k n = no h

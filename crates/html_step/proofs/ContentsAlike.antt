@@ -4,7 +4,7 @@
 use Rattle.std.proofs.Common.{◌≡◌, ℕ, Bool, true, false, List, [], ◌∷◌, ◌++◌, codes, length, Option, None, refl, ap, ◌∙◌}
 use Rattle.place_core.specs.page.Classes.{Class, White, Solidus, LessThan, GreaterThan, Letter}
 use Rattle.place_core.specs.page.Contents.{is_name_of, may_be_name_of}
-use Rattle.place_core.specs.page.States.{Pending, Nothing, PendingLess, LessAtCut, PendingName, PendingBang, PendingBangDash}
+use Rattle.place_core.specs.page.States.{Pending, Nothing, PendingLess, LessAtCut, PendingName, PendingBang, PendingBangDash, PendingOpening}
 use Rattle.place_core.specs.page.Tags.{Feeding, feed_bytes}
 use Rattle.place_core.specs.place.Errors.{PathCause, at_hand, content_byte_error, end_name_error, first_cause, less_error, loose_byte_error, pending_error, released_error}
 use Rattle.place_core.specs.declared.element.Element.{Element}
@@ -69,6 +69,7 @@ content-beside a e (PendingName letters) c b s t r k =
     name-beside a (may_be_name_of e (letters ++ b ∷ [])) (is_name_of e letters) c b letters s t r k
 content-beside a e PendingBang c b s t r k = (released-beside a (codes "<!") c b s t r k).own
 content-beside a e PendingBangDash c b s t r k = (released-beside a (codes "<!-") c b s t r k).own
+content-beside a e (PendingOpening letters) c b s t r k = (released-beside a (codes "<" ++ letters) c b s t r k).own
 
 -- refused alike
 loose-alike : {S T : Type 0} {m : Feeding S} {n : Feeding T} {R : S → T → Type 0} → FedAlike m n R
@@ -122,3 +123,4 @@ content-alike a e (PendingName letters) c b s t r =
     name-alike a (may_be_name_of e (letters ++ b ∷ [])) (is_name_of e letters) c b letters s t r
 content-alike a e PendingBang c b s t r = released-alike a (codes "<!") c b s t r
 content-alike a e PendingBangDash c b s t r = released-alike a (codes "<!-") c b s t r
+content-alike a e (PendingOpening letters) c b s t r = released-alike a (codes "<" ++ letters) c b s t r

@@ -6,7 +6,7 @@ use Rattle.css_step.specs.StyleSetLaws.{StyleScanBelow, below_itself}
 use Rattle.css_step.proofs.StyleGrowth.{styles-grow}
 use Rattle.place_core.specs.page.Classes.{Class, White, Solidus, LessThan, GreaterThan, Letter}
 use Rattle.place_core.specs.page.Contents.{is_name_of, may_be_name_of, pending_bytes}
-use Rattle.place_core.specs.page.States.{Pending, Nothing, PendingLess, LessAtCut, PendingName, PendingBang, PendingBangDash}
+use Rattle.place_core.specs.page.States.{Pending, Nothing, PendingLess, LessAtCut, PendingName, PendingBang, PendingBangDash, PendingOpening}
 use Rattle.place_core.specs.page.Tags.{feed_bytes}
 use Rattle.place_core.specs.place.Errors.{end_name_error, less_error, loose_byte_error, pending_error, released_error, split_error}
 use Rattle.place_core.specs.place.LanguagePlaces.{css_has}
@@ -101,6 +101,7 @@ pending-from (PendingName letters) c b n y e i =
     name-from (may_be_name_of element.Style (letters ++ b ∷ [])) (is_name_of element.Style letters) c b letters n y e i
 pending-from PendingBang c b n y e i = released-from (codes "<!") c b n y e i
 pending-from PendingBangDash c b n y e i = released-from (codes "<!-") c b n y e i
+pending-from (PendingOpening letters) c b n y e i = released-from (codes "<" ++ letters) c b n y e i
 
 -- From a lexeme, or what may be its end tag, and from a place.
 pub from-element : (n : StyleScan) (h : Pending) (c : Class) (b : ℕ) (y : Member) → element_cause n h c b ≡ None → ScanHas (element_pending_next n h c b) y

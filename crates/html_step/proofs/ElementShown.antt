@@ -10,7 +10,7 @@ use Rattle.css_step.specs.StyleSetLaws.{StyleScanBelow, below_itself, below_tail
 use Rattle.place_core.proofs.Semilattices.{none_some}
 use Rattle.place_core.specs.page.Classes.{Class, White, Solidus, LessThan, GreaterThan, Letter}
 use Rattle.place_core.specs.page.Contents.{is_name_of, may_be_name_of, pending_bytes}
-use Rattle.place_core.specs.page.States.{Pending, Nothing, PendingLess, LessAtCut, PendingName, PendingBang, PendingBangDash}
+use Rattle.place_core.specs.page.States.{Pending, Nothing, PendingLess, LessAtCut, PendingName, PendingBang, PendingBangDash, PendingOpening}
 use Rattle.place_core.specs.page.Tags.{feed_bytes, style_code, style_cut}
 use Rattle.place_core.specs.place.Errors.{PathCause, at_hand, cut_cause, end_name_error, fed_error, first_cause, loose_byte_error, pending_error, released_error, split_error}
 use Rattle.place_core.specs.declared.code.Code.{Code}
@@ -51,6 +51,8 @@ pending-character PendingLess p = single 60 refl
 pending-character LessAtCut p = single 60 refl
 pending-character (PendingName letters) p = several 60 (47 ∷ letters) refl (omega arith) less-no-letter p
 pending-character PendingBang p = several 60 (33 ∷ []) refl (omega arith) less-no-letter p
+pending-character (PendingOpening []) p = single 60 refl
+pending-character (PendingOpening (l ∷ letters)) p = several 60 (l ∷ letters) refl (omega arith) less-no-letter p
 pending-character PendingBangDash p = several 60 (33 ∷ 45 ∷ []) refl (omega arith) less-no-letter p
 
 met-of : (o : Option Parts) (m : StyleScan) → style_scan_parts m ≡ o → is_apart o ≡ true
@@ -126,6 +128,7 @@ at-byte LessAtCut c b = released (λ k. released-run (codes "<") c b k) refl
 at-byte (PendingName letters) c b =
     name-at c b letters (name-byte (may_be_name_of element.Style (letters ++ b ∷ [])) (is_name_of element.Style letters) c b letters)
 at-byte PendingBang c b = released (λ k. released-run (codes "<!") c b k) refl
+at-byte (PendingOpening letters) c b = released (λ k. released-run (codes "<" ++ letters) c b k) refl
 at-byte PendingBangDash c b = released (λ k. released-run (codes "<!-") c b k) refl
 
 -- What shows it, of each scan state of the style below: two members never do.
@@ -249,6 +252,7 @@ split-same LessAtCut k n l = refl
 split-same (PendingName letters) k n l = refl
 split-same PendingBang k n l = refl
 split-same PendingBangDash k n l = refl
+split-same (PendingOpening letters) k n l = refl
 
 cut-by : (o : Option PathCause) (n : StyleScan) (h : Pending) (e : PathCause) → NoColon (pending_bytes h)
     → pending_error style_feeding n (pending_bytes h) ≡ o → first_cause o (split_error style_less_cause n h) ≡ Some e

@@ -17,7 +17,7 @@ use Rattle.css_step.proofs.StyleBodies.{body-after-cut}
 use Rattle.place_core.proofs.Semilattices.{no_map, one_value}
 use Rattle.place_core.specs.page.Classes.{Class, White, ExclamationMark, Solidus, LessThan, GreaterThan, Letter, class_of}
 use Rattle.place_core.specs.page.Contents.{content_after, is_name_of, may_be_name_of, next_end_name, next_less, next_loose, pending_bytes}
-use Rattle.place_core.specs.page.States.{LexState, InContent, InLanguage, Pending, Nothing, PendingLess, LessAtCut, PendingName, PendingBang, PendingBangDash}
+use Rattle.place_core.specs.page.States.{LexState, InContent, InLanguage, Pending, Nothing, PendingLess, LessAtCut, PendingName, PendingBang, PendingBangDash, PendingOpening}
 use Rattle.place_core.specs.page.Tags.{ValueState, ValueOf, OfKind, OfUrl, OfStyle, OfScript, feed_bytes, fed_state, language_feeding, languages, style_code, style_cut}
 use Rattle.place_core.specs.place.Errors.{PathCause, block_cut_error, cause_back, cut_cause, end_name_error, first_cause, less_error, loose_byte_error, pending_before, pending_error, place_before_bytes, released_error}
 use Rattle.place_core.specs.place.StatePlaces.{language_place}
@@ -32,6 +32,7 @@ use Rattle.html_scan.specs.Scans.{Scan, At, InStyleElement, element_cause, eleme
 use Rattle.html_step.proofs.ContentsAlike.{content-alike, pending-alike, pending-behind, released-beside}
 use Rattle.html_step.proofs.FedAlike.{FedAlike, alike-first, beside, cause-none, first-caused}
 use Rattle.html_step.proofs.PathScans.{Agrees, Ends, ScriptFacts, ScriptsAgree, WhereScanned, element_scanned, language_scanned, none-at-hand, scanned, style_element_scanned}
+use Rattle.html_step.proofs.ScriptElementSteps.{script-element-ends, script-element-steps}
 use Rattle.html_step.proofs.StylePaths.{one-css, start-of, start-whole, style_unfinished, styles-alike}
 use Rattle.url_lexer.specs.Parts.{UrlPart}
 use Rattle.url_lexer.specs.States.{Url}
@@ -179,28 +180,29 @@ element-name false true GreaterThan b letters z n i e = refl
 element-name false true c b letters z n i e = element-released (codes "</" ++ letters) c b z n i e
 element-name false false c b letters z n i e = element-released (codes "</" ++ letters) c b z n i e
 
-element-steps : (h : Pending) (z : ValueState) (n : StyleScan) (c : Class) (b : ℕ) → IsStyleState z n
-    → WhereScanned (element_scanned h n) (λ f. Agrees (InContent element.Style (InLanguage z) h) f c b)
-element-steps Nothing z n c b i = record {
-  errors = content-alike states-alike element.Style Nothing c b z n i ∙ sym (element-scan-error n c b);
-  scripts = λ k places w. places-by (is_style_start n) z n c b k places;
+element-steps : (h : Pending) (s : Style Url) (n : StyleScan) (c : Class) (b : ℕ) → IsStyleScan s n
+    → WhereScanned (element_scanned h n) (λ f. Agrees (InContent element.Style (InLanguage (OfStyle s)) h) f c b)
+element-steps Nothing s n c b i = record {
+  errors = content-alike states-alike element.Style Nothing c b (OfStyle s) n i ∙ sym (element-scan-error n c b);
+  scripts = λ k places w. places-by (is_style_start n) (OfStyle s) n c b k places;
   steps = λ e.
-      element-loose c b z n i (none-at-hand (loose_byte_error style_feeding n c b) (sym (element-scan-error n c b) ∙ e))
+      element-loose c b (OfStyle s) n i (none-at-hand (loose_byte_error style_feeding n c b) (sym (element-scan-error n c b) ∙ e))
       ∙ ap Some (sym (element-scan-next n c b));
 }
-element-steps PendingLess z n c b i = record {
-  errors = content-alike states-alike element.Style PendingLess c b z n i;
+element-steps PendingLess s n c b i = record {
+  errors = content-alike states-alike element.Style PendingLess c b (OfStyle s) n i;
   scripts = λ k places w. (refl, refl, λ h. refl);
-  steps = λ e. element-less c b z n i e;
+  steps = λ e. element-less c b (OfStyle s) n i e;
 }
-element-steps (PendingName letters) z n c b i = record {
-  errors = content-alike states-alike element.Style (PendingName letters) c b z n i;
+element-steps (PendingName letters) s n c b i = record {
+  errors = content-alike states-alike element.Style (PendingName letters) c b (OfStyle s) n i;
   scripts = λ k places w. (refl, refl, λ h. refl);
-  steps = λ e. element-name (may_be_name_of element.Style (letters ++ b ∷ [])) (is_name_of element.Style letters) c b letters z n i e;
+  steps = λ e. element-name (may_be_name_of element.Style (letters ++ b ∷ [])) (is_name_of element.Style letters) c b letters (OfStyle s) n i e;
 }
-element-steps LessAtCut z n c b i = tt
-element-steps PendingBang z n c b i = tt
-element-steps PendingBangDash z n c b i = tt
+element-steps LessAtCut s n c b i = tt
+element-steps PendingBang s n c b i = tt
+element-steps PendingBangDash s n c b i = tt
+element-steps (PendingOpening letters) s n c b i = tt
 
 where-element : (h : Pending) (s : Style Url) (P : Scan → Type 0) (o : Option StyleScan) → style_scanned s ≡ o
     → ((n : StyleScan) → IsStyleScan s n → WhereScanned (element_scanned h n) P) → WhereScanned (style_element_scanned h o) P
@@ -211,10 +213,14 @@ pub language-steps : (h : Pending) (e : Element) (v : ValueState) (c : Class) (b
     → WhereScanned (language_scanned h e v) (λ f. Agrees (InContent e (InLanguage v) h) f c b)
 language-steps h element.Style (OfStyle s) c b =
     where-element h s (λ f. Agrees (InContent element.Style (InLanguage (OfStyle s)) h) f c b) (style_scanned s) refl
-    (λ n i. element-steps h (OfStyle s) n c b i)
+    (λ n i. element-steps h s n c b i)
 language-steps h element.Style (OfKind k) c b = tt
 language-steps h element.Style (OfUrl u) c b = tt
 language-steps h element.Style (OfScript v) c b = tt
+language-steps h element.Script (OfScript v) c b = script-element-steps h v c b
+language-steps h element.Script (OfKind k) c b = tt
+language-steps h element.Script (OfUrl u) c b = tt
+language-steps h element.Script (OfStyle v) c b = tt
 language-steps h _ v c b = tt
 
 -- the place where a text ends, and behind a hole
@@ -303,62 +309,67 @@ pending-lexeme bytes z n i e =
     state-lexeme (fed_state languages z bytes) (feed_bytes style_feeding n bytes) (pending-behind (beside states-alike) bytes z n i e)
 
 -- the place that is shown before the bytes that are left
-element-shown : (h : Pending) (bs : List ℕ) (z : ValueState) (n : StyleScan) → IsStyleState z n
-    → pending_error style_feeding n (pending_bytes (pending_left h bs)) ≡ None
-    → place_before_bytes (InContent element.Style (InLanguage z) h) bs ≡ scan_shown (InStyleElement n h) bs
-element-shown h [] z n i e = pending-place (pending_bytes h) z n i e
-element-shown h (b ∷ bs) z n i e = pending-place (pending_bytes (pending_before element.Style h (class_of b) b)) z n i e
+element-shown : (h : Pending) (bs : List ℕ) (s : Style Url) (n : StyleScan) → IsStyleScan s n
+    → pending_error style_feeding n (pending_bytes (pending_left element.Style h bs)) ≡ None
+    → place_before_bytes (InContent element.Style (InLanguage (OfStyle s)) h) bs ≡ scan_shown (InStyleElement n h) bs
+element-shown h [] s n i e = pending-place (pending_bytes h) (OfStyle s) n i e
+element-shown h (b ∷ bs) s n i e = pending-place (pending_bytes (pending_before element.Style h (class_of b) b)) (OfStyle s) n i e
 
-none-left : (bs : List ℕ) (n : StyleScan) → pending_error style_feeding n (pending_bytes (pending_left Nothing bs)) ≡ None
+none-left : (bs : List ℕ) (n : StyleScan) → pending_error style_feeding n (pending_bytes (pending_left element.Style Nothing bs)) ≡ None
 none-left [] n = refl
 none-left (b ∷ bs) n = refl
 
-element-ends : (h : Pending) (z : ValueState) (n : StyleScan) → IsStyleState z n
-    → WhereScanned (element_scanned h n) (Ends (InContent element.Style (InLanguage z) h))
-element-ends Nothing z n i = record {
+element-ends : (h : Pending) (s : Style Url) (n : StyleScan) → IsStyleScan s n
+    → WhereScanned (element_scanned h n) (Ends (InContent element.Style (InLanguage (OfStyle s)) h))
+element-ends Nothing s n i = record {
   errors = sym (element-scan-cut n);
   scripts = λ k places. script-cut-by (is_style_start n) n k places;
-  facts = facts-by (is_style_start n) (InContent element.Style (InLanguage z) Nothing) n;
-  lexeme = λ e. state-lexeme z n i ∙ sym (element-scan-lexeme n);
+  facts = facts-by (is_style_start n) (InContent element.Style (InLanguage (OfStyle s)) Nothing) n;
+  lexeme = λ e. state-lexeme (OfStyle s) n i ∙ sym (element-scan-lexeme n);
   reference = sym (reference-by (is_style_start n) n);
-  place = λ e. state-place z n i ∙ ap Some (sym (element-scan-place n));
-  shown = λ bs e. element-shown Nothing bs z n i (none-left bs n) ∙ sym (shown-by (is_style_start n) n bs);
+  place = λ e. state-place (OfStyle s) n i ∙ ap Some (sym (element-scan-place n));
+  shown = λ bs e. element-shown Nothing bs s n i (none-left bs n) ∙ sym (shown-by (is_style_start n) n bs);
 }
-element-ends PendingLess z n i =
+element-ends PendingLess s n i =
     let bytes = codes "<" in
-    let own = option_map cut_cause (languages.refuses_less z) in
+    let own = option_map cut_cause (languages.refuses_less (OfStyle s)) in
     record {
-      errors = ap (λ (o : Option PathCause). first_cause o own) (pending-alike states-alike bytes z n i)
-          ∙ alike-first (pending_error style_feeding n bytes) own (style_less_cause n) (λ e. state-less z n i e);
+      errors = ap (λ (o : Option PathCause). first_cause o own) (pending-alike states-alike bytes (OfStyle s) n i)
+          ∙ alike-first (pending_error style_feeding n bytes) own (style_less_cause n) (λ e. state-less (OfStyle s) n i e);
       scripts = λ k places. refl;
       facts = tt;
-      lexeme = λ e. pending-lexeme bytes z n i (first-caused (pending_error style_feeding n bytes) (style_less_cause n) e.cut).0;
+      lexeme = λ e. pending-lexeme bytes (OfStyle s) n i (first-caused (pending_error style_feeding n bytes) (style_less_cause n) e.cut).0;
       reference = refl;
-      place = λ e. pending-place bytes z n i (first-caused (pending_error style_feeding n bytes) (style_less_cause n) e.cut).0;
-      shown = λ bs e. element-shown PendingLess bs z n i e;
+      place = λ e. pending-place bytes (OfStyle s) n i (first-caused (pending_error style_feeding n bytes) (style_less_cause n) e.cut).0;
+      shown = λ bs e. element-shown PendingLess bs s n i e;
     }
-element-ends (PendingName letters) z n i =
+element-ends (PendingName letters) s n i =
     let bytes = codes "</" ++ letters in
     let split = block_cut_error (PendingName letters) in
     record {
-      errors = ap (λ (o : Option PathCause). first_cause o split) (pending-alike states-alike bytes z n i);
+      errors = ap (λ (o : Option PathCause). first_cause o split) (pending-alike states-alike bytes (OfStyle s) n i);
       scripts = λ k places. refl;
       facts = tt;
-      lexeme = λ e. pending-lexeme bytes z n i (first-caused (pending_error style_feeding n bytes) split e.cut).0;
+      lexeme = λ e. pending-lexeme bytes (OfStyle s) n i (first-caused (pending_error style_feeding n bytes) split e.cut).0;
       reference = refl;
-      place = λ e. pending-place bytes z n i (first-caused (pending_error style_feeding n bytes) split e.cut).0;
-      shown = λ bs e. element-shown (PendingName letters) bs z n i e;
+      place = λ e. pending-place bytes (OfStyle s) n i (first-caused (pending_error style_feeding n bytes) split e.cut).0;
+      shown = λ bs e. element-shown (PendingName letters) bs s n i e;
     }
-element-ends LessAtCut z n i = tt
-element-ends PendingBang z n i = tt
-element-ends PendingBangDash z n i = tt
+element-ends LessAtCut s n i = tt
+element-ends PendingBang s n i = tt
+element-ends PendingBangDash s n i = tt
+element-ends (PendingOpening letters) s n i = tt
 
 pub language-ends : (h : Pending) (e : Element) (v : ValueState)
     → WhereScanned (language_scanned h e v) (Ends (InContent e (InLanguage v) h))
 language-ends h element.Style (OfStyle s) =
     where-element h s (Ends (InContent element.Style (InLanguage (OfStyle s)) h)) (style_scanned s) refl
-    (λ n i. element-ends h (OfStyle s) n i)
+    (λ n i. element-ends h s n i)
 language-ends h element.Style (OfKind k) = tt
 language-ends h element.Style (OfUrl u) = tt
 language-ends h element.Style (OfScript v) = tt
+language-ends h element.Script (OfScript v) = script-element-ends h v
+language-ends h element.Script (OfKind k) = tt
+language-ends h element.Script (OfUrl u) = tt
+language-ends h element.Script (OfStyle v) = tt
 language-ends h _ v = tt

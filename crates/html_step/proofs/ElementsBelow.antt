@@ -1,12 +1,12 @@
 -- In the element `style`: what is below a scan state there, by the order of styles, with the same bytes pending back.
-use Rattle.std.proofs.Common.{◌≡◌, ℕ, refl, subst, sym}
+use Rattle.std.proofs.Common.{◌≡◌, subst}
 use Rattle.css_step.specs.StyleScans.{StyleScan, style_scan_start}
 use Rattle.css_step.specs.StyleSetLaws.{StyleScanBelow}
 use Rattle.place_core.specs.page.States.{Pending, Nothing}
 use Rattle.place_core.specs.declared.css.Css.{Css}
 use Rattle.place_core.specs.declared.place.Place.{Place}
 use Rattle.place_core.specs.declared.place.Place.TheVariants as place
-use Rattle.html_scan.specs.Scans.{Scan, At, AfterLess, AfterLessSolidus, InDeclaration, InTagName, InAttributeName, InUrl, InStyle, InScript, InStyleElement, InCommentEnd, InContentEnd, BeforeType, InType}
+use Rattle.html_scan.specs.Scans.{Scan, At, AfterLess, AfterLessSolidus, InDeclaration, InTagName, InAttributeName, InUrl, InStyle, InScript, InScriptElement, InStyleElement, InCommentEnd, InContentEnd, BeforeType, InType}
 
 -- A lexeme of a style may be below a place, as in a value.
 abbrev pub ElementUnderPlace : StyleScan → Place → Type 0
@@ -46,3 +46,4 @@ under-element P n h (InType x y z w) u f g = absurd u
 under-element P n h (InUrl x y z) u f g = absurd u
 under-element P n h (InStyle x y z) u f g = absurd u
 under-element P n h (InScript x y z) u f g = absurd u
+under-element P n h (InScriptElement x y) u f g = absurd u

@@ -1,11 +1,11 @@
 -- What is pending back in the element `style`: no byte of it is a `:`, or a `(`.
-use Rattle.std.proofs.Common.{◌≡◌, ◌≤◌, ℕ, zero, suc, Bool, true, false, List, [], ◌∷◌, ◌++◌, codes, length, take, bytes_eq, refl, sym, ap, ◌∙◌, subst, arith}
+use Rattle.std.proofs.Common.{◌≡◌, ◌≤◌, ℕ, zero, suc, Bool, true, false, List, [], ◌∷◌, ◌++◌, codes, length, take, refl, sym, ap, ◌∙◌, subst, arith}
 use Rattle.std.specs.Char.{to_ascii_lowercase}
 use Rattle.std.specs.Str.{str_to_ascii_lowercase}
 use Rattle.std.proofs.lemmas.Slice.Eq.{bytes_eq-Decides}
 use Rattle.place_core.specs.page.Classes.{Class, Letter, LetterClass, class_of}
 use Rattle.place_core.specs.page.Contents.{may_be_name_of, name_of, pending_bytes}
-use Rattle.place_core.specs.page.States.{Pending, Nothing, PendingLess, LessAtCut, PendingName, PendingBang, PendingBangDash}
+use Rattle.place_core.specs.page.States.{Pending, Nothing, PendingLess, LessAtCut, PendingName, PendingBang, PendingBangDash, PendingOpening}
 use Rattle.place_core.specs.declared.element.Element.TheVariants as element
 use Rattle.html_step.proofs.Characters.{NoColon, colon-byte}
 use Rattle.html_step.proofs.Parentheses.{IsNoOpening, NoOpening, OpensLast, opening-byte}
@@ -63,6 +63,7 @@ pending-no-colon (PendingName letters) n =
     (not-colon 60 (omega arith), (low-not-colon 47 (omega arith), (small-plain letters (letters-small letters n)).0))
 pending-no-colon PendingBang n = (not-colon 60 (omega arith), (low-not-colon 33 (omega arith), tt))
 pending-no-colon PendingBangDash n = (not-colon 60 (omega arith), (low-not-colon 33 (omega arith), (low-not-colon 45 (omega arith), tt)))
+pending-no-colon (PendingOpening letters) n = absurd n
 
 pub pending-no-opening : (h : Pending) → IsPendingName h → NoOpening (pending_bytes h)
 pending-no-opening Nothing n = tt
@@ -72,6 +73,7 @@ pending-no-opening (PendingName letters) n =
     (not-opening 60 (omega arith), (not-opening 47 (omega arith), (small-plain letters (letters-small letters n)).1))
 pending-no-opening PendingBang n = (not-opening 60 (omega arith), (low-not-opening 33 (omega arith), tt))
 pending-no-opening PendingBangDash n = (not-opening 60 (omega arith), (low-not-opening 33 (omega arith), (not-opening 45 (omega arith), tt)))
+pending-no-opening (PendingOpening letters) n = absurd n
 
 -- Of bytes without a `(`, and a byte more.
 pub less-opens-none : IsNoOpening 60

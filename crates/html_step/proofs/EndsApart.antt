@@ -12,8 +12,7 @@ use Rattle.place_core.specs.declared.element.Element.{Element}
 use Rattle.place_core.specs.declared.element.Element.TheVariants as element
 use Rattle.place_core.specs.declared.parts.Parts.{Parts}
 use Rattle.place_core.specs.declared.prefix.Prefix.TheVariants as prefix
-use Rattle.place_core.specs.declared.value_place.ValuePlace.{ValuePlace}
-use Rattle.place_core.specs.page.States.{Pending, Nothing, PendingLess, LessAtCut, PendingName, PendingBang, PendingBangDash}
+use Rattle.place_core.specs.page.States.{Pending, Nothing, PendingLess, LessAtCut, PendingName, PendingBang, PendingBangDash, PendingOpening}
 use Rattle.place_core.specs.page.Contents.{pending_bytes}
 use Rattle.place_core.proofs.Semilattices.{none_some}
 use Rattle.html_scan.specs.Scans.{Scan, At, InUrl, InStyle, InContentEnd, InStyleElement, content_end_place, parts_feeding, parts_with, scan_place, style_feeding}
@@ -21,8 +20,8 @@ use Rattle.html_step.specs.Origins.{is_apart}
 use Rattle.html_step.proofs.ApartParts.{differs-of, several-apart}
 use Rattle.html_step.proofs.Characters.{IsNoLetter, ampersand-no-letter, less-no-letter}
 use Rattle.html_step.proofs.ScanOrder.{ScanValid, UrlWithin}
-use Rattle.html_step.proofs.StyleUrls.{KnownUrl, StaysInUrl, feeds, known-fed, known-unmet, known_none, scan-opened, stays-parts, unmet-spells}
-use Rattle.html_step.proofs.UrlScans.{has_met, raw-opened, raw_place}
+use Rattle.html_step.proofs.StyleUrls.{feeds, known-fed, known-unmet, known_none, scan-opened, stays-parts, unmet-spells}
+use Rattle.html_step.proofs.UrlScans.{raw_place}
 use Rattle.url_step.specs.PartSets.{spells_apart}
 
 no : false ≡ true → ⊥
@@ -78,6 +77,7 @@ element-apart LessAtCut n h = less-stood [] n h
 element-apart (PendingName letters) n h = less-stood (47 ∷ letters) n h
 element-apart PendingBang n h = less-stood (33 ∷ []) n h
 element-apart PendingBangDash n h = less-stood (33 ∷ 45 ∷ []) n h
+element-apart (PendingOpening letters) n h = less-stood (letters) n h
 
 pub end-opened : (e : Element) (h : Pending) → beginning_at (content_end_place e h) ≡ None
 end-opened element.DataBlock PendingLess = refl

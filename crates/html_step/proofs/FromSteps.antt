@@ -1,7 +1,7 @@
 -- Each member after a byte comes from one member before it.
-use Rattle.std.proofs.Common.{◌≡◌, ℕ, Bool, true, false, ◌||◌, List, [], ◌∷◌, if◌then◌else◌, Option, Some, None, refl, sym, ap, ◌∙◌, subst}
+use Rattle.std.proofs.Common.{◌≡◌, ℕ, Bool, true, false, ◌||◌, List, [], ◌∷◌, if◌then◌else◌, Option, Some, None, refl, sym, ap, ◌∙◌, subst, ⊎_elim}
 use Rattle.std.specs.Char.{to_ascii_lowercase}
-use Rattle.place_core.specs.page.Classes.{Class, White, QuotationMark, Apostrophe, HyphenMinus, Solidus, LessThan, EqualsSign, GreaterThan}
+use Rattle.place_core.specs.page.Classes.{Class, White, QuotationMark, Apostrophe, HyphenMinus, Solidus, LessThan, EqualsSign, GreaterThan, class_of}
 use Rattle.place_core.specs.place.Errors.{tag_error}
 use Rattle.place_core.specs.place.Places.{Has, IsValid, IsValidTag, dash_has, is_whole, typed_has}
 use Rattle.place_core.specs.place.StatePlaces.{unbegun}
@@ -20,12 +20,13 @@ use Rattle.place_core.specs.declared.tag_of.TagOf.{TagOf}
 use Rattle.place_core.specs.declared.tag_place.TagPlace.{TagPlace}
 use Rattle.place_core.specs.declared.value_place.ValuePlace.{ValuePlace}
 use Rattle.place_core.proofs.Joins.{places_same}
-use Rattle.html_scan.specs.Scans.{Scan, At, AfterLess, AfterLessSolidus, InDeclaration, InTagName, InAttributeName, InUrl, InStyle, InScript, InStyleElement, InCommentEnd, InContentEnd, comment_next, comment_state, place_cause, scan_cut_error, scan_error, scan_next, scan_place, tag_next, value_cause, value_next, value_scan, BeforeType, InType, content_next}
+use Rattle.html_scan.specs.Scans.{Scan, At, AfterLess, AfterLessSolidus, InDeclaration, InTagName, InAttributeName, InUrl, InStyle, InScript, InScriptElement, InStyleElement, InCommentEnd, InContentEnd, comment_next, comment_state, place_cause, scan_cut_error, scan_error, scan_next, scan_place, tag_next, value_cause, value_next, value_scan, BeforeType, InType, content_next, content_scan}
 use Rattle.html_step.specs.Origins.{byte_origin, end_origin, name_origin, tag_origin, typed_origin, value_origin, white_origin}
 use Rattle.html_step.proofs.BelowScans.{IsRigid, below-at, below-at-tag, below-at-unstyled, below-attribute, below-url, comment-end-rigid, content-end-rigid, declaration-rigid, doctype-rigid, less-rigid, rcdata-rigid, solidus-rigid, tag-name-rigid, text-rigid, whole-in, before-type-rigid, type-rigid}
 use Rattle.html_step.proofs.ElementFrom.{end-element, from-element, from-element-place}
+use Rattle.html_step.proofs.ScriptElementFrom.{end-script-element, from-script-element, from-script-element-place}
 use Rattle.html_step.proofs.StyleFrom.{has-placed}
-use Rattle.html_step.proofs.FromValues.{From, FromEnd, ValueFrom, content-whole, end-from, no-less, value-from, value_has}
+use Rattle.html_step.proofs.FromValues.{From, FromEnd, ValueFrom, content-from, end-from, no-less, value-from, value_has}
 use Rattle.html_step.proofs.ScanOrder.{ScanBelow, ScanHas, ScanValid, Unstyled, UrlWithin, begun-open, begun-valid, has-kind, within-unstyled, script_cut}
 use Rattle.html_step.proofs.StylePaths.{empty_css}
 use Rattle.html_step.proofs.ScriptPaths.{empty_js}
@@ -144,13 +145,16 @@ from-name t c b member.Typed e h = from-tag t c b member.Typed member.Typed (fal
     (λ u v l o. subst (λ (f : Scan). ScanHas f member.Typed) (sym (e u)) (or-false u.typed o))
 from-name t c b _ e h = absurd (no h)
 
+content-typed : (t : TagOf) (y : Member) → ScanHas (content_scan t) y → typed_origin y ≡ member.Whole
+content-typed t y h = ⊎_elim (λ k. whole-typed y k) (λ k. ap typed_origin k) (content-from t y h)
+
 pub from-tag-byte : (t : TagPlace) (c : Class) (b : ℕ) (y : Member) → IsValidTag t → tag_error t c ≡ None → ScanHas (tag_next t c b) y
     → From (At (place.Tag t)) c b y (tag_origin c t.spots y)
 from-tag-byte t White b y v n h = from-white t b y h
 from-tag-byte t Solidus b y v n h = from-solidus t b y h
 from-tag-byte t GreaterThan b y v n h =
-    (let e = content-whole t.tag y h in subst (From (At (place.Tag t)) GreaterThan b y) (sym (whole-typed y e))
-    (from-whole (At (place.Tag t)) GreaterThan b y e))
+    subst (From (At (place.Tag t)) GreaterThan b y) (sym (content-typed t.tag y h))
+    (from-tag t GreaterThan b y member.Whole refl (λ u w l o. subst (λ (z : TagOf). ScanHas (content_scan z) y) (sym l.tag) h))
 from-tag-byte t EqualsSign b y v n h = from-equals t b y v n h
 from-tag-byte t QuotationMark b y v n h = absurd (some _ n)
 from-tag-byte t Apostrophe b y v n h = absurd (some _ n)
@@ -214,35 +218,36 @@ from-value-byte v c b y x d w n h =
     from-value v c b y (value_origin v Closed c b y) z (value-from v NoTriple Closed c b y w.0 tt z n h)
 
 -- From any scan state.
-pub from-place : (p : Place) (c : Class) (b : ℕ) (y : Member) → IsValid p → place_cause p c b ≡ None → ScanHas (scan_next (At p) c b) y
+pub from-place : (p : Place) (c : Class) (b : ℕ) (y : Member) → class_of b ≡ c → IsValid p → place_cause p c b ≡ None → ScanHas (scan_next (At p) c b) y
     → From (At p) c b y (byte_origin (At p) c b y)
-from-place place.Text c b y v n h = from-rigid (At place.Text) text-rigid c b y h
-from-place place.Doctype c b y v n h = from-rigid (At place.Doctype) doctype-rigid c b y h
-from-place (place.Comment dash) c b y v n h = from-whole (At (place.Comment dash)) c b y (comment-whole dash c y h)
-from-place (place.Rcdata e) c b y v n h = from-rigid (At (place.Rcdata e)) (rcdata-rigid e) c b y h
-from-place (place.Tag t) c b y v n h = from-tag-byte t c b y v (none-at-hand (tag_error t c) n) h
-from-place (place.Value x) c b y v n h = from-value-byte x c b y x.body refl v n h
-from-place (place.Script j) c b y v n h = absurd (some _ n)
-from-place (place.Style j) c b y v n h = from-element-place j c b y n h
-from-place (place.Block lt) c b y v n h = from-whole (At (place.Block lt)) c b y (block-whole c y h)
+from-place place.Text c b y i v n h = from-rigid (At place.Text) text-rigid c b y h
+from-place place.Doctype c b y i v n h = from-rigid (At place.Doctype) doctype-rigid c b y h
+from-place (place.Comment dash) c b y i v n h = from-whole (At (place.Comment dash)) c b y (comment-whole dash c y h)
+from-place (place.Rcdata e) c b y i v n h = from-rigid (At (place.Rcdata e)) (rcdata-rigid e) c b y h
+from-place (place.Tag t) c b y i v n h = from-tag-byte t c b y v (none-at-hand (tag_error t c) n) h
+from-place (place.Value x) c b y i v n h = from-value-byte x c b y x.body refl v n h
+from-place (place.Script j) c b y i v n h = from-script-element-place j c b y i v n h
+from-place (place.Style j) c b y i v n h = from-element-place j c b y n h
+from-place (place.Block lt) c b y i v n h = from-whole (At (place.Block lt)) c b y (block-whole c y h)
 
-pub from-byte : (f : Scan) (c : Class) (b : ℕ) (y : Member) → ScanValid f → scan_error f c b ≡ None → ScanHas (scan_next f c b) y
+pub from-byte : (f : Scan) (c : Class) (b : ℕ) (y : Member) → class_of b ≡ c → ScanValid f → scan_error f c b ≡ None → ScanHas (scan_next f c b) y
     → From f c b y (byte_origin f c b y)
-from-byte (At p) c b y v n h = from-place p c b y v n h
-from-byte AfterLess c b y v n h = from-rigid AfterLess less-rigid c b y h
-from-byte AfterLessSolidus c b y v n h = from-rigid AfterLessSolidus solidus-rigid c b y h
-from-byte (InDeclaration pending) c b y v n h = from-rigid (InDeclaration pending) (declaration-rigid pending) c b y h
-from-byte (InTagName end name) c b y v n h = from-rigid (InTagName end name) (tag-name-rigid end name) c b y h
-from-byte (InAttributeName t typed name) c b y v n h = from-attribute t typed name c b y h
-from-byte (InUrl w t r) c b y v n h =
+from-byte (At p) c b y i v n h = from-place p c b y i v n h
+from-byte AfterLess c b y i v n h = from-rigid AfterLess less-rigid c b y h
+from-byte AfterLessSolidus c b y i v n h = from-rigid AfterLessSolidus solidus-rigid c b y h
+from-byte (InDeclaration pending) c b y i v n h = from-rigid (InDeclaration pending) (declaration-rigid pending) c b y h
+from-byte (InTagName end name) c b y i v n h = from-rigid (InTagName end name) (tag-name-rigid end name) c b y h
+from-byte (InAttributeName t typed name) c b y i v n h = from-attribute t typed name c b y h
+from-byte (InUrl w t r) c b y i v n h =
     from-url w t r c b y (value_origin w r c b y) (value-from w t r c b y (begun-valid w.quotes v.0) (begun-open r w.quotes v.0) (within-unstyled w.body v.1) n h)
-from-byte (InStyle w s r) c b y v n h = from-in-style w s r c b y v.0 n h
-from-byte (InScript w s r) c b y v n h = from-in-script w s r c b y v.0 v.2 n h
-from-byte (InCommentEnd s) c b y v n h = from-rigid (InCommentEnd s) (comment-end-rigid s) c b y h
-from-byte (InContentEnd e x) c b y v n h = from-rigid (InContentEnd e x) (content-end-rigid e x) c b y h
-from-byte (InStyleElement s x) c b y v n h = from-element s x c b y n h
-from-byte (BeforeType t) c b y v n h = from-rigid (BeforeType t) (before-type-rigid t) c b y h
-from-byte (InType t q w r) c b y v n h = from-rigid (InType t q w r) (type-rigid t q w r) c b y h
+from-byte (InStyle w s r) c b y i v n h = from-in-style w s r c b y v.0 n h
+from-byte (InScript w s r) c b y i v n h = from-in-script w s r c b y v.0 v.2 n h
+from-byte (InCommentEnd s) c b y i v n h = from-rigid (InCommentEnd s) (comment-end-rigid s) c b y h
+from-byte (InContentEnd e x) c b y i v n h = from-rigid (InContentEnd e x) (content-end-rigid e x) c b y h
+from-byte (InStyleElement s x) c b y i v n h = from-element s x c b y n h
+from-byte (InScriptElement k x) c b y i v n h = from-script-element k x c b y i v.0 n h
+from-byte (BeforeType t) c b y i v n h = from-rigid (BeforeType t) (before-type-rigid t) c b y h
+from-byte (InType t q w r) c b y i v n h = from-rigid (InType t q w r) (type-rigid t q w r) c b y h
 
 -- From the end of a text.
 end-url : (v : ValuePlace) (t : Triple) (r : Reference) (y : Member) → UrlWithin v.body → scan_cut_error (InUrl v t r) ≡ None → Has (scan_place (InUrl v t r)) y
@@ -277,6 +282,7 @@ from-end (InAttributeName t typed name) y v n o h = end-attribute t typed name y
 from-end (InCommentEnd s) y v n o h = end-rigid (InCommentEnd s) (comment-end-rigid s) y h
 from-end (InContentEnd e x) y v n o h = end-rigid (InContentEnd e x) (content-end-rigid e x) y h
 from-end (InStyleElement s x) y v n o h = end-element s x y n h
+from-end (InScriptElement k x) y v n o h = end-script-element k x y v.0 n h
 from-end (BeforeType t) y v n o h = end-rigid (BeforeType t) (before-type-rigid t) y h
 from-end (InUrl w t r) y v n o h = end-url w t r y v.1 n h
 from-end (InStyle w s r) y v n o h = end-style w s r y v.0 n h

@@ -1,5 +1,5 @@
 -- Members through whole texts.
-use Rattle.std.proofs.Common.{◌≡◌, ℕ, ◌+◌, List, [], ◌∷◌, Ok, sym, ◌∙◌, subst}
+use Rattle.std.proofs.Common.{◌≡◌, ℕ, ◌+◌, List, [], ◌∷◌, Ok, sym, ◌∙◌, subst, refl}
 use Rattle.place_core.specs.page.Classes.{class_of}
 use Rattle.place_core.specs.place.Errors.{TextRead, nothing_read}
 use Rattle.place_core.specs.place.Membership.{IsIn, Bears}
@@ -36,10 +36,10 @@ from-bytes [] k since f q y v e h =
 from-bytes (b ∷ bs) k since f q y v e h =
     let n = step-ok k since b bs f q e in
     let r = from-bytes bs (k + 1) (scan_read_behind k since f (class_of b) b) (scan_next f (class_of b) b) q y (scan-valid f (class_of b) b v n.0) n.1 h in
-    let x = from-byte f (class_of b) b (origin bs (scan_next f (class_of b) b) y) v n.0 r.there in
+    let x = from-byte f (class_of b) b (origin bs (scan_next f (class_of b) b) y) refl v n.0 r.there in
     record {
       there = x.there;
-      leads = λ k since g a w l o d. let m = scan-grows g f (class_of b) b w l n.0 in
+      leads = λ k since g a w l o d. let m = scan-grows g f (class_of b) b refl w l n.0 in
           r.leads (k + 1) (scan_read_behind k since g (class_of b) b) (scan_next g (class_of b) b) a (scan-valid g (class_of b) b w m.0)
           m.1 (x.leads g w l o) (step-ok k since b bs g a d).1;
     }

@@ -1,5 +1,5 @@
 -- Each member after a byte of a value, and after its end, comes from one member of the value before it.
-use Rattle.std.proofs.Common.{◌≡◌, ℕ, Bool, true, false, ◌||◌, ◌&&◌, List, [], if◌then◌else◌, Some, None, refl, sym, ap, subst}
+use Rattle.std.proofs.Common.{◌≡◌, ℕ, Bool, true, false, ◌||◌, ◌&&◌, List, [], if◌then◌else◌, Some, None, refl, sym, ap, ◌∙◌, subst, ◌⊎◌, inl, inr, ⊎_elim}
 use Rattle.place_core.specs.page.Classes.{Class, White, QuotationMark, Apostrophe, LessThan, EqualsSign, GreaterThan, GraveAccent}
 use Rattle.place_core.specs.page.References.{Reference, Closed, Open, as_it_stands, next_reference, plain_bytes, undone_byte}
 use Rattle.place_core.specs.page.Tags.{feed_bytes}
@@ -25,7 +25,7 @@ use Rattle.place_core.specs.declared.value_place.ValuePlace.{ValuePlace}
 use Rattle.place_core.proofs.Joins.{places_same}
 use Rattle.place_core.proofs.Semilattices.{none_some}
 use Rattle.html_scan.specs.Scans.{Scan, bare_begun, bare_next, bare_white, content_scan, in_tag, open_cut_error, body_cause, parts_feeding, parts_with, quoted_error, quoted_next, scan_next, scan_place, triple_behind, url_scan, value_cause, value_fed, value_next, with_parts, with_quotes}
-use Rattle.html_step.specs.Origins.{body_origin, fed_in, fed_origin, in_value_origin, value_origin}
+use Rattle.html_step.specs.Origins.{body_origin, fed_in, fed_origin, in_body_origin, in_value_origin, unsensed, value_origin}
 use Rattle.html_step.proofs.BelowScans.{whole-in}
 use Rattle.html_step.proofs.FromParts.{AreTaken, fed-from, fed-quoted, fed-taken, fed-typed, fed-whole, first-no-cause, language-taken, or-behind, or-either, or-first}
 use Rattle.html_step.proofs.ScriptFrom.{js-is, script-typed-origin, script-whole-origin}
@@ -129,28 +129,34 @@ body-typed (body.Css c) bytes = style-fed-typed bytes (style_scan_start c)
 body-typed (body.Js j) bytes = script-typed-origin (script_scan_start j)
 body-typed _ bytes = refl
 
-whole-origin : (b : Body) (bytes : List ℕ) (y : Member) → is_whole y ≡ true → body_origin b bytes (in_value_origin y) ≡ member.Whole
-whole-origin b bytes member.Whole h = body-whole b bytes
+body-in : (b : Body) (y x : Member) → in_value_origin y ≡ x → unsensed x ≡ x → in_body_origin b y ≡ x
+body-in (body.Js j) y x e u = e
+body-in _ y x e u = ap unsensed e ∙ u
+
+whole-origin : (b : Body) (bytes : List ℕ) (y : Member) → is_whole y ≡ true → body_origin b bytes (in_body_origin b y) ≡ member.Whole
+whole-origin b bytes member.Whole h = ap (body_origin b bytes) (body-in b member.Whole member.Whole refl refl) ∙ body-whole b bytes
 whole-origin b bytes _ h = absurd (no h)
 
 typed-origin : (b : Body) (bytes : List ℕ) (x : Bool) (y : Member) → typed_has x y ≡ true
-    → (body_origin b bytes (in_value_origin y) ≡ member.Typed) × (x ≡ true)
-typed-origin b bytes x member.Typed h = (body-typed b bytes, h)
+    → (body_origin b bytes (in_body_origin b y) ≡ member.Typed) × (x ≡ true)
+typed-origin b bytes x member.Typed h = (ap (body_origin b bytes) (body-in b member.Typed member.Typed refl refl) ∙ body-typed b bytes, h)
 typed-origin b bytes x _ h = absurd (no h)
 
 pub typed-more : (x z : Bool) (y : Member) → typed_has x y ≡ true → z ≡ true → typed_has z y ≡ true
 typed-more x z member.Typed h k = k
 typed-more x z _ h k = absurd (no h)
 
-quotes-origin : (b : Body) (bytes : List ℕ) (q : Quotes) (y : Member) → quotes_have q y ≡ true → body_origin b bytes (in_value_origin y) ≡ member.Whole
-quotes-origin b bytes (quotes.Bare s) member.UnquotedValue h = body-whole b bytes
-quotes-origin b bytes (quotes.Bare s) member.UnbegunValue h = body-whole b bytes
+quotes-origin : (b : Body) (bytes : List ℕ) (q : Quotes) (y : Member) → quotes_have q y ≡ true → body_origin b bytes (in_body_origin b y) ≡ member.Whole
+quotes-origin b bytes (quotes.Bare s) member.UnquotedValue h =
+    ap (body_origin b bytes) (body-in b member.UnquotedValue member.Whole refl refl) ∙ body-whole b bytes
+quotes-origin b bytes (quotes.Bare s) member.UnbegunValue h =
+    ap (body_origin b bytes) (body-in b member.UnbegunValue member.Whole refl refl) ∙ body-whole b bytes
 quotes-origin b bytes (quotes.Bare s) _ h = absurd (no h)
 quotes-origin b bytes quotes.Dq y h = absurd (no h)
 quotes-origin b bytes quotes.Sq y h = absurd (no h)
 
-spot-origin : (b : Body) (bytes : List ℕ) (y : Member) → spots_have only_before y ≡ true → body_origin b bytes (in_value_origin y) ≡ member.Whole
-spot-origin b bytes member.BeforeSpot h = body-whole b bytes
+spot-origin : (b : Body) (bytes : List ℕ) (y : Member) → spots_have only_before y ≡ true → body_origin b bytes (in_body_origin b y) ≡ member.Whole
+spot-origin b bytes member.BeforeSpot h = ap (body_origin b bytes) (body-in b member.BeforeSpot member.Whole refl refl) ∙ body-whole b bytes
 spot-origin b bytes _ h = absurd (no h)
 
 pub part-kept : (s : Parts) (y : Member) → parts_have s y ≡ true → in_value_origin y ≡ y
@@ -161,6 +167,23 @@ part-kept s member.PartPrequery h = refl
 part-kept s member.PartQuery h = refl
 part-kept s member.PartBad h = refl
 part-kept s _ h = absurd (no h)
+
+pub url-kept : (s : Parts) (y : Member) → parts_have s y ≡ true → unsensed (in_value_origin y) ≡ y
+url-kept s member.PartStart h = refl
+url-kept s member.PartOpen h = refl
+url-kept s member.PartOpenhole h = refl
+url-kept s member.PartPrequery h = refl
+url-kept s member.PartQuery h = refl
+url-kept s member.PartBad h = refl
+url-kept s _ h = absurd (no h)
+
+-- behind the tag of a script
+sense-origin : (b : Body) (bytes : List ℕ) (y : Member) → Unstyled b → y ≡ member.SenseRe → body_origin b bytes (in_body_origin b y) ≡ member.Whole
+sense-origin (body.Url s) bytes y u e = ap (λ (m : Member). fed_origin bytes s (unsensed (in_value_origin m))) e ∙ fed-whole bytes s
+sense-origin body.Plain bytes y u e = ap (λ (m : Member). unsensed (in_value_origin m)) e
+sense-origin body.NoHole bytes y u e = ap (λ (m : Member). unsensed (in_value_origin m)) e
+sense-origin (body.Js j) bytes y u e = absurd u
+sense-origin (body.Css c) bytes y u e = absurd u
 
 -- a value of a language that is built, and neither a style nor a script
 abbrev pub Built : Body → Type 0
@@ -187,9 +210,9 @@ nothing-fed (body.Url s) = refl
 nothing-fed _ = refl
 
 body-there : (x : Bool) (p : Quotes) (b : Body) (bytes : List ℕ) (y : Member) → Built b → BodyTaken b bytes → body_has (parts_with b bytes) y ≡ true
-    → value_has x p b (body_origin b bytes (in_value_origin y)) ≡ true
+    → value_has x p b (body_origin b bytes (in_body_origin b y)) ≡ true
 body-there x p (body.Url s) bytes y n a h =
-    subst (λ (m : Member). value_has x p (body.Url s) (fed_origin bytes s m) ≡ true) (sym (part-kept (feed_bytes parts_feeding s bytes) y h))
+    subst (λ (m : Member). value_has x p (body.Url s) (fed_origin bytes s m) ≡ true) (sym (url-kept (feed_bytes parts_feeding s bytes) y h))
     (in-body x p (body.Url s) (fed_origin bytes s y) ((fed-from bytes s y a h).there))
 body-there x p body.Plain bytes y n a h = absurd (no h)
 body-there x p body.NoHole bytes y n a h = absurd (no h)
@@ -204,10 +227,10 @@ url-leads s (body.Url t) z w bytes y a j h o =
 url-leads s d z w bytes y a j h o = absurd (none_some (body.Url s) j)
 
 body-leads : (b d : Body) (z : Bool) (w : Quotes) (bytes : List ℕ) (y : Member) → Built b → BodyTaken b bytes → joined_bodies d b ≡ Some b
-    → body_has (parts_with b bytes) y ≡ true → value_has z w d (body_origin b bytes (in_value_origin y)) ≡ true → body_has (parts_with d bytes) y ≡ true
+    → body_has (parts_with b bytes) y ≡ true → value_has z w d (body_origin b bytes (in_body_origin b y)) ≡ true → body_has (parts_with d bytes) y ≡ true
 body-leads (body.Url s) d z w bytes y n a j h o =
     url-leads s d z w bytes y a j h
-    (subst (λ (m : Member). value_has z w d (fed_origin bytes s m) ≡ true) (part-kept (feed_bytes parts_feeding s bytes) y h) o)
+    (subst (λ (m : Member). value_has z w d (fed_origin bytes s m) ≡ true) (url-kept (feed_bytes parts_feeding s bytes) y h) o)
 body-leads body.Plain d z w bytes y n a j h o = absurd (no h)
 body-leads body.NoHole d z w bytes y n a j h o = absurd (no h)
 body-leads (body.Js i) d z w bytes y n a j h o = absurd n.1
@@ -220,7 +243,7 @@ data Alike (u v : ValuePlace) (bytes : List ℕ) (f g : Scan) : Type 0 where
   goes : (q : Quotes) → BodyTaken v.body bytes → ((y : Member) → value_has u.typed q (parts_with u.body bytes) y ≡ true → ScanHas f y)
       → ((y : Member) → ScanHas g y → value_has v.typed q (parts_with v.body bytes) y ≡ true) → Alike u v bytes f g
 
--- after the end of a tag there is nothing but the whole
+-- After the end of a tag there is nothing but the whole, and what a slash would be where a script begins.
 whole-alone : (y : Member) → (is_whole y || false) ≡ true → is_whole y ≡ true
 whole-alone y h = or-either (is_whole y ≡ true) (is_whole y) false h (λ k. k) (λ k. absurd (no k))
 
@@ -229,17 +252,37 @@ no-less member.BlockLt h = absurd (no h)
 no-less member.Whole h = refl
 no-less _ h = h
 
-pub content-whole : (t : TagOf) (y : Member) → ScanHas (content_scan t) y → is_whole y ≡ true
-content-whole tag.End y h = whole-alone y h
-content-whole (tag.Start element.Title) y h = whole-alone y h
-content-whole (tag.Start element.Textarea) y h = whole-alone y h
-content-whole (tag.Start element.DataBlock) y h = no-less y h
-content-whole (tag.Start element.Style) y h =
+abbrev NoScript : TagOf → Type 0
+NoScript (tag.Start element.Script) = ⊥
+NoScript t = Unit {0}
+
+-- where a script begins
+begins-script : (y : Member) → ScanHas (content_scan (tag.Start element.Script)) y → (is_whole y ≡ true) ⊎ (y ≡ member.SenseRe)
+begins-script member.Whole h = inl refl
+begins-script member.SenseRe h = inr refl
+begins-script _ h = absurd (no h)
+
+no-script : (t : TagOf) (y : Member) → NoScript t → ScanHas (content_scan t) y → is_whole y ≡ true
+no-script tag.End y n h = whole-alone y h
+no-script (tag.Start element.Title) y n h = whole-alone y h
+no-script (tag.Start element.Textarea) y n h = whole-alone y h
+no-script (tag.Start element.DataBlock) y n h = no-less y h
+no-script (tag.Start element.Style) y n h =
     or-either (is_whole y ≡ true) (is_whole y) (css_tails_have (style_tails false false false) y) h (λ e. e) (λ e. absurd (no-tails y e))
-content-whole (tag.Start _) y h = whole-alone y h
+no-script (tag.Start element.Other) y n h = whole-alone y h
+no-script (tag.Start element.Script) y n h = absurd n
+
+pub content-from : (t : TagOf) (y : Member) → ScanHas (content_scan t) y → (is_whole y ≡ true) ⊎ (y ≡ member.SenseRe)
+content-from (tag.Start element.Script) y h = begins-script y h
+content-from tag.End y h = inl (no-script tag.End y tt h)
+content-from (tag.Start element.Title) y h = inl (no-script (tag.Start element.Title) y tt h)
+content-from (tag.Start element.Textarea) y h = inl (no-script (tag.Start element.Textarea) y tt h)
+content-from (tag.Start element.DataBlock) y h = inl (no-script (tag.Start element.DataBlock) y tt h)
+content-from (tag.Start element.Style) y h = inl (no-script (tag.Start element.Style) y tt h)
+content-from (tag.Start element.Other) y h = inl (no-script (tag.Start element.Other) y tt h)
 
 abbrev BodyOrigin : ValuePlace → List ℕ → Member → Member
-BodyOrigin v bytes y = body_origin v.body bytes (in_value_origin y)
+BodyOrigin v bytes y = body_origin v.body bytes (in_body_origin v.body y)
 
 there-whole : (v : ValuePlace) (m : Member) → m ≡ member.Whole → Has (place.Value v) m
 there-whole v m e = subst (Has (place.Value v)) (sym e) refl
@@ -256,7 +299,8 @@ alike-there u v bytes f g y (tags e i) n h =
     (λ k. or-either (Has (place.Value v) X) (typed_has v.typed y) (spots_have only_before y) k
     (λ l. there-typed v X (typed-origin v.body bytes v.typed y l)) (λ l. there-whole v X (spot-origin v.body bytes y l)))
 alike-there u v bytes f g y (ends e i) n h =
-    there-whole v (BodyOrigin v bytes y) (whole-origin v.body bytes y (content-whole v.tag y (subst (λ (x : Scan). ScanHas x y) i h)))
+    ⊎_elim (λ k. there-whole v (BodyOrigin v bytes y) (whole-origin v.body bytes y k))
+    (λ k. there-whole v (BodyOrigin v bytes y) (sense-origin v.body bytes y n.1 k)) (content-from v.tag y (subst (λ (x : Scan). ScanHas x y) i h))
 alike-there u v bytes f g y (goes q a into out) n h =
     let X = BodyOrigin v bytes y in
     value-cases (Has (place.Value v) X) v.typed q (parts_with v.body bytes) y (out y h)
@@ -270,10 +314,10 @@ seen u v bytes y n j h o =
     let e = typed-origin v.body bytes v.typed y h in
     typed-more v.typed u.typed y h (typed-only u.typed u.quotes u.body (body-accepts u.body v.body j n) (subst (Has (place.Value u)) e.0 o))
 
-alike-leads : (u v : ValuePlace) (bytes : List ℕ) (f g : Scan) (y : Member) → Alike u v bytes f g → Built v.body
+alike-leads : (u v : ValuePlace) (bytes : List ℕ) (f g : Scan) (y : Member) → u.tag ≡ v.tag → Alike u v bytes f g → Built v.body
     → joined_bodies u.body v.body ≡ Some v.body
     → ScanHas g y → Has (place.Value u) (BodyOrigin v bytes y) → ScanHas f y
-alike-leads u v bytes f g y (tags e i) n j h o =
+alike-leads u v bytes f g y t (tags e i) n j h o =
     or-either (ScanHas f y) (is_whole y) (typed_has v.typed y || spots_have only_before y) (subst (λ (x : Scan). ScanHas x y) i h)
     (λ k. whole-in f y k)
     (λ k. subst (λ (x : Scan). ScanHas x y) (sym e)
@@ -281,8 +325,8 @@ alike-leads u v bytes f g y (tags e i) n j h o =
     (or-either ((typed_has u.typed y || spots_have only_before y) ≡ true) (typed_has v.typed y) (spots_have only_before y) k
     (λ l. or-first (typed_has u.typed y) (spots_have only_before y) (seen u v bytes y n.0 j l o))
     (λ l. or-behind (typed_has u.typed y) (spots_have only_before y) l))))
-alike-leads u v bytes f g y (ends e i) n j h o = whole-in f y (content-whole v.tag y (subst (λ (x : Scan). ScanHas x y) i h))
-alike-leads u v bytes f g y (goes q a into out) n j h o =
+alike-leads u v bytes f g y t (ends e i) n j h o = subst (λ (x : Scan). ScanHas x y) (i ∙ sym (ap content_scan t) ∙ sym e) h
+alike-leads u v bytes f g y t (goes q a into out) n j h o =
     value-cases (ScanHas f y) v.typed q (parts_with v.body bytes) y (out y h) (λ k. whole-in f y k)
     (λ k. into y (in-typed u.typed q (parts_with u.body bytes) y (seen u v bytes y n.0 j k o))) (λ k. into y (in-quotes u.typed q (parts_with u.body bytes) y k))
     (λ k. into y (in-body u.typed q (parts_with u.body bytes) y (body-leads v.body u.body u.typed u.quotes bytes y n a j k o)))
@@ -400,7 +444,7 @@ value-from v t r c b y w i z n h =
     let built : Built v.body = (e.0, z) in
     record {
       there = alike-there v v bytes (value_next v t r c b) (value_next v t r c b) y (quotes-alike v v v.quotes v.quotes t r c b w i same.quotes (built, built) m.0 e.1) built h;
-      leads = λ u x l o. alike-leads u v bytes (value_next u t r c b) (value_next v t r c b) y
+      leads = λ u x l o. alike-leads u v bytes (value_next u t r c b) (value_next v t r c b) y l.tag
           (quotes-alike u v u.quotes v.quotes t r c b x i l.quotes ((body-accepts u.body v.body l.body e.0, unstyled-below u.body v.body l.body z), built) m.0 e.1) built l.body h o;
     }
 

@@ -24,13 +24,12 @@ use Rattle.place_core.specs.declared.place.Place.TheVariants as place
 use Rattle.place_core.specs.declared.quotes.Quotes.{Quotes}
 use Rattle.place_core.specs.declared.quotes.Quotes.TheVariants as quotes
 use Rattle.place_core.specs.declared.san.San.{San}
-use Rattle.place_core.specs.declared.san.San.TheVariants as san
 use Rattle.place_core.specs.declared.tag_place.TagPlace.{TagPlace}
 use Rattle.place_core.specs.declared.value_place.ValuePlace.{ValuePlace}
 use Rattle.place_core.proofs.Semilattices.{none_some, one_value}
 use Rattle.html_scan.specs.Scans.{bare_begun}
 use Rattle.html_step.specs.HoleLaws.{AcceptsHole, CoversHole, GrowsHole, OneHole, ValidHole}
-use Rattle.html_step.specs.Holes.{Holed, after_hole, both_of, css_chain, css_holed, element_holed, holed_quotes, js_holed, last_of, named_by_data, only, plain_hole, url_chain, url_holed, value_hole, block_hole}
+use Rattle.html_step.specs.Holes.{Holed, after_hole, both_of, css_chain, css_holed, element_holed, holed_quotes, js_holed, last_of, named_by_data, only, plain_hole, url_holed, value_hole, block_hole}
 use Rattle.css_lexer.specs.RefusalCodes.{RefusalCode}
 use Rattle.css_step.specs.StyleChains.{style_hole_with_chain, style_sans}
 use Rattle.css_step.specs.StyleScans.{style_at_hole, style_hole_error}
@@ -39,6 +38,7 @@ use Rattle.css_step.specs.StyleSetLaws.{StyleBelow}
 use Rattle.css_step.proofs.StyleGrowth.{styles-grow, url-none}
 use Rattle.css_step.proofs.StyleParts.{styles-stay-valid}
 use Rattle.html_step.proofs.EscapeOrder.{css-dq-one, css-sq-one, css-url-one}
+use Rattle.html_step.proofs.JsPlaces.{js-below-place, js-place-below}
 use Rattle.html_step.proofs.ScriptOrder.{below-js, js-below}
 use Rattle.html_step.proofs.StyleOrder.{below-css, css-below}
 use Rattle.js_step.specs.ScriptSanitizers.{script_sanitizer}
@@ -221,6 +221,14 @@ js-grows x y c d h b l = (
       h.tag h.typed (holed-below x.quotes y.quotes h.quotes) (below-js (script_at_hole c) (script_at_hole d) (scripts-grow.at_hole c d l)),
 )
 
+-- and in the element
+script-hole-grows : (c d : Js) → ScriptBelow c d → GrowsTo (after_hole (place.Script d)) (place.Script c)
+script-hole-grows c d h = (
+  place.Script (script_at_hole c),
+  ap (λ (z : San). Ok (place.Script (script_at_hole c), only z)) (same-sanitizer c d h),
+  js-place-below (script_at_hole c) (script_at_hole d) (scripts-grow.at_hole c d h),
+)
+
 -- below a script is one
 pub js-of-below : (b : Body) (d : Js) → joined_bodies b (body.Js d) ≡ Some (body.Js d) → (c : Js) × (b ≡ body.Js c) × ScriptBelow c d
 js-of-below (body.Js c) d h = (c, refl, js-below c d h)
@@ -256,7 +264,7 @@ grows-to (place.Rcdata e) (place.Rcdata f) v h = (place.Rcdata e, refl, h)
 grows-to (place.Tag x) (place.Tag y) v h = tag-grows x y (y.spots.name || y.spots.inside) (below-tag x y h) refl
 grows-to (place.Value x) (place.Value y) v h = value-grows x y y.body (below-value x y h) v refl
 grows-to p place.Doctype v h = tt
-grows-to p (place.Script j) v h = tt
+grows-to (place.Script i) (place.Script j) v h = script-hole-grows i j (js-below-place i j h)
 grows-to (place.Style i) (place.Style j) v h = element-hole-grows i j (style_hole_error j) v (style-below-place i j h) refl
 grows-to (place.Block x) (place.Block y) v h = block-grows x y (block-below x y h)
 grows-to place.Text r v h = absurd (none_some r h)
@@ -320,7 +328,7 @@ valid-to (place.Comment dash) v = tt
 valid-to (place.Rcdata e) v = v
 valid-to (place.Tag t) v = tag-valid t (t.spots.name || t.spots.inside)
 valid-to (place.Value x) v = value-valid x x.body v refl
-valid-to (place.Script j) v = tt
+valid-to (place.Script j) v = scripts-stay-valid.at_hole j v
 valid-to (place.Style j) v = element-hole-valid j (style_hole_error j) v
 valid-to (place.Block true) v = tt
 valid-to (place.Block false) v = tt

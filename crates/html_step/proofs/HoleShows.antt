@@ -39,6 +39,7 @@ use Rattle.html_step.proofs.ScanOrder.{block-below, plain-same, style-below-plac
 use Rattle.html_step.proofs.HoleOrder.{css-of-below, grows-hole, js-of-below, one-hole}
 use Rattle.html_step.proofs.HoleMembers.{part-behind}
 use Rattle.html_step.proofs.HolesShown.{HoleShown, ShownWhere, hole-where, on_bad, on_two}
+use Rattle.html_step.proofs.JsPlaces.{under-script}
 use Rattle.html_step.proofs.ScriptFrom.{IsScriptMember, js-is, kept-member}
 use Rattle.html_step.proofs.PlaceParts.{TagBelow, Under, ValueBelow, below-value}
 use Rattle.html_step.proofs.ScanOrder.{parts-of-below}
@@ -596,6 +597,32 @@ element-from p None y =
     from-element-by p y x (element-there p x n.there)
     (λ c m o. or-last (is_whole y) (css_has (style_at_hole c) y) (n.leads c m (λ i. element-out p c x i o))))
 
+-- in the element `script`
+from-script-by : (p : Js) (y x : Member) → Has (place.Script p) x
+    → ((c : Js) → ScriptBelow c p → Has (place.Script c) x → Has (place.Script (script_at_hole c)) y) → FromPlace (place.Script p) y x
+from-script-by p y x h f = record {
+  there = h;
+  leads = λ a l o. under-script (λ (d : Place). Has d x → HasAfter (after_hole d) y) p f a l o;
+}
+
+script-there : (p : Js) (x : Member) → (x ≡ member.Whole) ⊎ (js_has p x ≡ true) → Has (place.Script p) x
+script-there p x (inl e) = subst (Has (place.Script p)) (sym e) refl
+script-there p x (inr h) = or-last (is_whole x) (js_has p x) h
+
+script-out : (p c : Js) (y : Member) → js_has p y ≡ true → Has (place.Script c) y → js_has c y ≡ true
+script-out p c y h k = or-either (js_has c y ≡ true) (is_whole y) (js_has c y) k (λ e. absurd (whole-no-script y e (js-is p y h))) (λ e. e)
+
+script-element-from : (p : Js) (y : Member) → FromTo (after_hole (place.Script p)) (place.Script p) y (js_hole_origin p y)
+script-element-from p y =
+    let From : Member → Type 0 = FromPlace (place.Script p) y in
+    λ h. or-either (From (js_hole_origin p y)) (is_whole y) (js_has (script_at_hole p) y) h
+    (λ k. subst From (sym (ap (js_hole_origin p) (whole-is y k) ∙ js-whole-origin p))
+    (from-script-by p y member.Whole refl (λ c m o. or-first (is_whole y) (js_has (script_at_hole c) y) k)))
+    (λ k. let n = js-behind p y k in
+    let x = js_hole_origin p y in
+    from-script-by p y x (script-there p x n.there)
+    (λ c m o. or-last (is_whole y) (js_has (script_at_hole c) y) (n.leads c m (λ i. script-out p c x i o))))
+
 from-to : (p : Place) (y : Member) → FromTo (after_hole p) p y (hole_origin p y)
 from-to place.Text y = λ h. record { there = h; leads = λ a l o. text-stays a y l o }
 from-to place.Doctype y = tt
@@ -603,7 +630,7 @@ from-to (place.Comment d) y = λ h. record { there = h; leads = λ a l o. commen
 from-to (place.Rcdata e) y = λ h. record { there = h; leads = λ a l o. rcdata-stays e a y l o }
 from-to (place.Tag t) y = tag-from t (t.spots.name || t.spots.inside) y
 from-to (place.Value t) y = value-from-to t t.body y refl
-from-to (place.Script j) y = tt
+from-to (place.Script j) y = script-element-from j y
 from-to (place.Style j) y = element-from j (style_hole_error j) y
 from-to (place.Block true) y = tt
 from-to (place.Block false) y = λ h. record { there = h; leads = λ a l o. block-stays a y l o }
@@ -890,10 +917,6 @@ doctype-refuses : (a : Place) → Below a place.Doctype → hole_error a ≡ Som
 doctype-refuses place.Doctype h = refl
 doctype-refuses a h = absurd (none_some place.Doctype h)
 
-script-refuses : (j : _) (a : Place) → Below a (place.Script j) → hole_error a ≡ Some code.NotBuilt
-script-refuses j (place.Script i) h = refl
-script-refuses j a h = absurd (none_some (place.Script j) h)
-
 block-evidence : (less : Bool) → ShownTo (block_hole less) (place.Block less) (one member.BlockLt)
 block-evidence true = record { there = refl; refuses = λ a l o. below-at-block (λ (g : Scan). Has (scan_place g) member.BlockLt → hole_error (scan_place g) ≡ Some code.SplitToken) true (λ x u o. rw o refl) (At a) l o }
 block-evidence false = tt
@@ -905,7 +928,7 @@ evidence-to (place.Comment d) = tt
 evidence-to (place.Rcdata e) = tt
 evidence-to (place.Tag t) = tag-evidence t t.spots.name t.spots.inside refl refl
 evidence-to (place.Value t) = value-evidence t t.body refl
-evidence-to (place.Script j) = record { there = refl; refuses = λ a l o. script-refuses j a l }
+evidence-to (place.Script j) = tt
 evidence-to (place.Style j) = element-answer j (style_hole_error j) (css_hole_shows j) (css-evidence (place.Style j) j refl (element-in-style j))
 evidence-to (place.Block less) = block-evidence less
 

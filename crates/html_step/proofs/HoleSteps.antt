@@ -5,7 +5,7 @@ use Rattle.place_core.specs.page.Paths.{at_hole}
 use Rattle.place_core.specs.page.References.{Closed, Open}
 use Rattle.place_core.specs.place.StatePlaces.{placed, tag_spot, value_spot, quotes_at, only_inside, only_after}
 use Rattle.place_core.specs.place.UrlParts.{parts_of}
-use Rattle.place_core.specs.page.States.{LexState, Text, TagOpen, EndTagOpen, DeclarationOpen, InComment, Started, StartedDash, Inside, Dash, DashDash, Bang, Broken, BogusComment, InDoctype, TagName, WholeTagName, BeforeAttributeName, AttributeName, WholeAttributeName, AfterAttributeName, BeforeAttributeValue, AttributeValue, AfterAttributeValue, SelfClosingStartTag, Characters, Bytes, InLanguage, Nothing, PendingLess, PendingName, PendingBang, PendingBangDash, InContent, Unread, LessAtCut}
+use Rattle.place_core.specs.page.States.{LexState, Text, TagOpen, EndTagOpen, DeclarationOpen, InComment, Started, StartedDash, Inside, Dash, DashDash, Bang, Broken, BogusComment, InDoctype, TagName, WholeTagName, BeforeAttributeName, AttributeName, WholeAttributeName, AfterAttributeName, BeforeAttributeValue, AttributeValue, AfterAttributeValue, SelfClosingStartTag, Characters, Bytes, InLanguage, Nothing, PendingLess, PendingName, PendingBang, PendingBangDash, PendingOpening, InContent, LessAtCut}
 use Rattle.place_core.specs.page.Tags.{Tag, ValueOf, Deciding, ValueState, OfKind, OfUrl, OfStyle, OfScript, languages, style_code, Quoting, DoubleQuoted, SingleQuoted, Unquoted, is_second_type}
 use Rattle.css_lexer.specs.RefusalCodes.{RefusalCode}
 use Rattle.css_lexer.specs.Paths.{style_after_hole}
@@ -15,9 +15,10 @@ use Rattle.css_step.specs.StyleChains.{style_hole_with_chain}
 use Rattle.css_step.specs.StyleScans.{style_at_hole, style_hole_error, style_scan_place}
 use Rattle.css_step.specs.StyleScanViews.{style_or_refusal}
 use Rattle.js_lexer.specs.States.{ScriptState}
+use Rattle.js_lexer.specs.Holes.{script_after_hole}
 use Rattle.js_step.specs.ScriptScans.{script_at_hole}
 use Rattle.js_step.proofs.ScriptPaths.{script-paths-are-scanned}
-use Rattle.place_core.specs.place.ScriptParts.{script_body}
+use Rattle.place_core.specs.place.ScriptParts.{script_body, script_js}
 use Rattle.html_step.proofs.StylePaths.{StyleHole, style-at-place, style-hole}
 use Rattle.place_core.specs.place.StyleParts.{style_body, style_css}
 use Rattle.place_core.specs.declared.body.Body.{Body}
@@ -33,6 +34,7 @@ use Rattle.place_core.specs.declared.place.Place.TheVariants as place
 use Rattle.place_core.specs.declared.quotes.Quotes.{Quotes}
 use Rattle.html_step.specs.Holes.{Holed, after_hole, css_holed, element_holed, holed_quotes, js_holed}
 use Rattle.html_step.proofs.ElementSteps.{body-css, css-is}
+use Rattle.html_step.proofs.JsPlaces.{js-of-body}
 use Rattle.html_step.proofs.PathScans.{same-tag}
 use Rattle.url_lexer.specs.Parts.{UrlPart, UrlStart, UrlOpen, UrlOpenhole, UrlPrequery, UrlQuery, UrlBad, part_at_hole}
 use Rattle.url_lexer.specs.Spots.{where_whole}
@@ -136,6 +138,16 @@ element-own : (o : Option Css) (v : Style Url) → style_css v ≡ o → WherePl
 element-own None v e = tt
 element-own (Some c) v e = element-hole (style_hole_error c) v c refl (style-hole v c (body-css v ∙ ap (option_map body.Css) e))
 
+-- of a script too
+script-element-own : (o : Option Js) (v : ScriptState) → script_js v ≡ o
+    → WherePlaced (option_map place.Script o) (InContent element.Script (InLanguage (OfScript v)) Nothing)
+script-element-own None v e = tt
+script-element-own (Some j) v e = (
+  refl,
+  ap (option_map place.Script)
+      (js-of-body (script_js (script_after_hole v)) (script_at_hole j) (script-paths-are-scanned.stands v j (ap (option_map body.Js) e)).behind_hole),
+)
+
 value-own : (q : Quoting) (t : Tag) (v : ValueState) → WherePlaced (placed (AttributeValue q t (ValueOf v) Closed)) (AttributeValue q t (ValueOf v) Closed)
 value-own DoubleQuoted t (OfKind kind.Plain) = (refl, refl)
 value-own SingleQuoted t (OfKind kind.Plain) = (refl, refl)
@@ -212,7 +224,10 @@ own-hole (InContent element.Style (InLanguage (OfScript s)) Nothing) = tt
 own-hole (InContent element.Title (InLanguage v) Nothing) = tt
 own-hole (InContent element.Textarea (InLanguage v) Nothing) = tt
 own-hole (InContent element.DataBlock (InLanguage v) Nothing) = tt
-own-hole (InContent element.Script (InLanguage v) Nothing) = tt
+own-hole (InContent element.Script (InLanguage (OfScript s)) Nothing) = script-element-own (script_js s) s refl
+own-hole (InContent element.Script (InLanguage (OfKind k)) Nothing) = tt
+own-hole (InContent element.Script (InLanguage (OfUrl u)) Nothing) = tt
+own-hole (InContent element.Script (InLanguage (OfStyle s)) Nothing) = tt
 own-hole (InContent element.Other (InLanguage v) Nothing) = tt
 own-hole (InContent x (InLanguage v) LessAtCut) = tt
 own-hole (InContent x (Characters r) LessAtCut) = tt
@@ -226,7 +241,7 @@ own-hole (InContent x y PendingLess) = tt
 own-hole (InContent x y (PendingName letters)) = tt
 own-hole (InContent x y PendingBang) = tt
 own-hole (InContent x y PendingBangDash) = tt
-own-hole Unread = tt
+own-hole (InContent x y (PendingOpening letters)) = tt
 
 pub own-at : (p : Place) (s : LexState ValueState) → placed s ≡ Some p → OwnHole (after_hole p) p s
 own-at p s e = subst (λ (o : Option Place). WherePlaced o s) e (own-hole s)

@@ -1,12 +1,12 @@
 -- Paths in the beginning of a URL, be it in a value or in the element `style`: what keeps them there, what the reference before a byte has to do with it, and the path of which it is not known
 -- what it has spelled.
-use Rattle.std.proofs.Common.{◌≡◌, ℕ, Bool, true, false, List, [], ◌∷◌, ◌++◌, Option, Some, None, ◌&&◌, codes, is_some, option_map, if◌then◌else◌, refl, sym, ap, ◌∙◌, subst, ◌⊎◌, inl, inr}
+use Rattle.std.proofs.Common.{◌≡◌, ℕ, Bool, true, false, List, [], ◌∷◌, ◌++◌, Option, Some, None, ◌&&◌, codes, is_some, option_map, if◌then◌else◌, refl, sym, ap, ◌∙◌, subst, inl, inr}
 use Rattle.place_core.specs.page.Classes.{Class, White, ExclamationMark, HyphenMinus, Solidus, LessThan, GreaterThan, Letter, is_equals_sign, class_of}
 use Rattle.place_core.specs.page.Contents.{content_after, is_name_of, may_be_name_of, next_bang, next_end_name, next_in_content, next_less, next_loose, pending_bytes}
 use Rattle.place_core.specs.page.Html.{next, next_value, next_after_value, next_before_name, after_tag, ends_value}
 use Rattle.place_core.specs.page.Paths.{at_cut}
 use Rattle.place_core.specs.page.References.{Reference, Closed, Open, Form, ReferenceStep, Grows, Closes, Breaks, turn, flushed, plain_bytes, undone_byte, next_reference, settled, as_it_stands}
-use Rattle.place_core.specs.page.States.{Template, LexState, Text, TagOpen, EndTagOpen, DeclarationOpen, Started, StartedDash, Inside, Dash, DashDash, Bang, Broken, InComment, BogusComment, InDoctype, TagName, WholeTagName, BeforeAttributeName, AttributeName, WholeAttributeName, AfterAttributeName, BeforeAttributeValue, AttributeValue, AfterAttributeValue, SelfClosingStartTag, Characters, Bytes, InLanguage, Pending, Nothing, PendingLess, LessAtCut, PendingName, PendingBang, PendingBangDash, InContent, Unread}
+use Rattle.place_core.specs.page.States.{Template, LexState, Text, TagOpen, EndTagOpen, DeclarationOpen, Started, StartedDash, Inside, Dash, DashDash, Bang, Broken, InComment, BogusComment, InDoctype, TagName, WholeTagName, BeforeAttributeName, AttributeName, WholeAttributeName, AfterAttributeName, BeforeAttributeValue, AttributeValue, AfterAttributeValue, SelfClosingStartTag, Characters, Bytes, InLanguage, Pending, Nothing, PendingLess, LessAtCut, PendingName, PendingBang, PendingBangDash, PendingOpening, InContent}
 use Rattle.place_core.specs.page.Tags.{Tag, is_second_type, Value, ValueOf, Deciding, ValueState, OfKind, OfUrl, OfStyle, languages, end_tag, fed_state, with_bytes, tag_with_value, cut_value, feed_value, Quoting, DoubleQuoted, SingleQuoted, Unquoted, OfScript}
 use Rattle.place_core.specs.place.ApartPlaces.{beginning_at, beginning_in_body, beginning_in_css, side}
 use Rattle.place_core.specs.place.Errors.{node, value_before}
@@ -34,9 +34,8 @@ use Rattle.place_core.specs.declared.value_place.ValuePlace.{ValuePlace}
 use Rattle.place_core.proofs.ApartPlacesFacts.{has-side, turned-apart}
 use Rattle.place_core.proofs.Semilattices.{none_some, one_value}
 use Rattle.css_lexer.specs.States.{Style}
-use Rattle.js_lexer.specs.Spots.{Spot, script_spot}
-use Rattle.place_core.specs.place.ScriptParts.{script_may_begin_text, script_place}
-use Rattle.html_step.proofs.Parentheses.{NoOpening, OpensAtEnds, OpensLast, ReferenceOpensNone, ends-before, flushed-opens, last-ends, next-opens, plain-last, stands-ends, step-ends}
+use Rattle.place_core.specs.place.ScriptParts.{script_js}
+use Rattle.html_step.proofs.Parentheses.{NoOpening, OpensAtEnds, ReferenceOpensNone, ends-before, flushed-opens, last-ends, next-opens, plain-last, stands-ends, step-ends}
 use Rattle.html_step.proofs.EndTagNames.{hyphen-opens-none, last-nil, less-opens-none, name-opens-none, no-opening-more, no-opening-nil, opens-behind, opens-last, solidus-opens-none}
 use Rattle.html_step.proofs.StylePaths.{ends-no-equals}
 use Rattle.html_step.specs.Origins.{loose_fed}
@@ -47,6 +46,7 @@ use Rattle.url_lexer.specs.States.{Url, feed_url}
 use Rattle.url_lexer.specs.Spots.{where_whole}
 use Rattle.url_lexer.specs.Triples.{Triple, NoTriple, AfterPercent, AfterDigit}
 use Rattle.url_lexer.specs.TwoPaths.{is_open}
+use Rattle.place_core.specs.declared.js.Js.{Js}
 
 no : false ≡ true → ⊥
 no e = cc
@@ -191,11 +191,13 @@ element-begins s (Some c) e h =
     open-by (url_in_style s) a.part a.is (part-opened a.part (sym (ap (λ (r : Parts). is_some r.opened) a.parts) ∙ d.opened))
 
 -- none is in a script
-script-no-side : (t : Tag) (q : Quotes) (x : Bool) (o : Option Spot)
-    → on_side (value_spot t q (if x then option_map (λ (p : Spot). body.Js (script_place p)) o else None)) ≡ true → ⊥
-script-no-side t q true (Some p) h = no h
-script-no-side t q true None h = no h
-script-no-side t q false o h = no h
+script-no-side : (t : Tag) (q : Quotes) (o : Option Js) → on_side (value_spot t q (option_map body.Js o)) ≡ true → ⊥
+script-no-side t q (Some j) h = no h
+script-no-side t q None h = no h
+
+element-no-side : (o : Option Js) → on_side (option_map place.Script o) ≡ true → ⊥
+element-no-side (Some j) h = no h
+element-no-side None h = no h
 
 second-not : (second : Bool) (t : TagPlace) → on_side (if second then None else Some (place.Tag t)) ≡ true → ⊥
 second-not true t h = no h
@@ -236,7 +238,7 @@ placed-begins (AttributeValue q t (ValueOf (OfKind kind.Style)) Closed) h = absu
 placed-begins (AttributeValue q t (ValueOf (OfKind kind.ScriptType)) Closed) h = absurd (no h)
 placed-begins (AttributeValue q t (ValueOf (OfUrl u)) Closed) h = url-begins t (quotes_at q) u.triple u.part h
 placed-begins (AttributeValue q t (ValueOf (OfStyle s)) Closed) h = style-begins q t s (style_body s) refl h
-placed-begins (AttributeValue q t (ValueOf (OfScript s)) Closed) h = absurd (script-no-side t (quotes_at q) (script_may_begin_text s) (script_spot s) h)
+placed-begins (AttributeValue q t (ValueOf (OfScript s)) Closed) h = absurd (script-no-side t (quotes_at q) (script_js s) h)
 placed-begins (AttributeValue q t (Deciding k before) Closed) h = absurd (no h)
 placed-begins (AttributeValue q t v (Open f bytes)) h = absurd (no h)
 placed-begins (AfterAttributeValue t) h = absurd (no h)
@@ -261,7 +263,10 @@ placed-begins (InContent element.Style (InLanguage (OfUrl u)) Nothing) h = absur
 placed-begins (InContent element.Title (InLanguage v) Nothing) h = absurd (no h)
 placed-begins (InContent element.Textarea (InLanguage v) Nothing) h = absurd (no h)
 placed-begins (InContent element.DataBlock (InLanguage v) Nothing) h = absurd (no h)
-placed-begins (InContent element.Script (InLanguage v) Nothing) h = absurd (no h)
+placed-begins (InContent element.Script (InLanguage (OfScript s)) Nothing) h = absurd (element-no-side (script_js s) h)
+placed-begins (InContent element.Script (InLanguage (OfKind k)) Nothing) h = absurd (no h)
+placed-begins (InContent element.Script (InLanguage (OfUrl u)) Nothing) h = absurd (no h)
+placed-begins (InContent element.Script (InLanguage (OfStyle s)) Nothing) h = absurd (no h)
 placed-begins (InContent element.Other (InLanguage v) Nothing) h = absurd (no h)
 placed-begins (InContent x (InLanguage v) LessAtCut) h = absurd (no h)
 placed-begins (InContent x (Characters r) LessAtCut) h = absurd (no h)
@@ -275,7 +280,7 @@ placed-begins (InContent x y PendingLess) h = absurd (no h)
 placed-begins (InContent x y (PendingName letters)) h = absurd (no h)
 placed-begins (InContent x y PendingBang) h = absurd (no h)
 placed-begins (InContent x y PendingBangDash) h = absurd (no h)
-placed-begins Unread h = absurd (no h)
+placed-begins (InContent x y (PendingOpening letters)) h = absurd (no h)
 
 pub side-begins : (s : LexState ValueState) → Bears s side → is_in_beginning s ≡ true
 side-begins s h = placed-begins s (ap on_side h.stands ∙ has-side h.own h.has)
@@ -304,6 +309,7 @@ begins-value (InContent e (InLanguage (OfStyle s)) LessAtCut) h = refl
 begins-value (InContent e (InLanguage (OfStyle s)) (PendingName letters)) h = refl
 begins-value (InContent e (InLanguage (OfStyle s)) PendingBang) h = refl
 begins-value (InContent e (InLanguage (OfStyle s)) PendingBangDash) h = refl
+begins-value (InContent e (InLanguage (OfStyle s)) (PendingOpening letters)) h = refl
 begins-value (InContent e (InLanguage (OfKind k)) x) h = absurd (no h)
 begins-value (InContent e (InLanguage (OfScript k)) x) h = absurd (no h)
 begins-value (InContent e (InLanguage (OfUrl u)) x) h = absurd (no h)
@@ -390,6 +396,7 @@ element-value e (OfStyle s) LessAtCut i k = refl
 element-value e (OfStyle s) (PendingName letters) i k = refl
 element-value e (OfStyle s) PendingBang i k = refl
 element-value e (OfStyle s) PendingBangDash i k = refl
+element-value e (OfStyle s) (PendingOpening letters) i k = refl
 element-value e (OfKind k) h i j = absurd (no i)
 element-value e (OfScript k) h i j = absurd (no i)
 element-value e (OfUrl u) h i j = absurd (no i)
@@ -449,6 +456,7 @@ placed-opens (InContent e (InLanguage v) LessAtCut) a h = absurd (none_some a h)
 placed-opens (InContent e (InLanguage v) (PendingName letters)) a h = absurd (none_some a h)
 placed-opens (InContent e (InLanguage v) PendingBang) a h = absurd (none_some a h)
 placed-opens (InContent e (InLanguage v) PendingBangDash) a h = absurd (none_some a h)
+placed-opens (InContent e (InLanguage v) (PendingOpening letters)) a h = absurd (none_some a h)
 placed-opens _ a h = tt
 
 -- what keeps is in the beginning behind the bytes that it is fed at the end of its text
@@ -618,12 +626,17 @@ content-unknown (PendingName letters) bs b e v n i k =
     name-unknown (may_be_name_of e (letters ++ b ∷ [])) (is_name_of e letters) bs (class_of b) b e v letters refl n i k
 content-unknown PendingBang bs b e v n i k = bang-unknown bs (class_of b) b e v n i k
 content-unknown PendingBangDash bs b e v n i k = released-unknown bs (codes "<!-") (class_of b) b e v n i k
+content-unknown (PendingOpening letters) bs b e v n i k = released-unknown bs (codes "<" ++ letters) (class_of b) b e v n i k
 
 element-next-unknown : (bs : List ℕ) (b : ℕ) (e : Element) (v : ValueState) (h : Pending) → NoOpening (pending_bytes h)
     → is_in_beginning (InContent e (InLanguage v) h) ≡ true → Keeps bs (next languages Template (InContent e (InLanguage v) h) (class_of b) b)
     → GoesUnknown (next languages Template (unknown_beginning (InContent e (InLanguage v) h)) (class_of b) b)
     (next languages Template (InContent e (InLanguage v) h) (class_of b) b)
-element-next-unknown bs b e v h n i k =
+element-next-unknown bs b e (OfKind x) h n i k = absurd (no i)
+element-next-unknown bs b e (OfUrl u) h n i k = absurd (no i)
+element-next-unknown bs b e (OfScript s) h n i k = absurd (no i)
+element-next-unknown bs b e (OfStyle z) h n i k =
+    let v = OfStyle z in
     let w = element-in e v h i in
     subst (λ (s : LexState ValueState). GoesUnknown (next languages Template s (class_of b) b) (next languages Template (InContent e (InLanguage v) h) (class_of b) b))
     (sym (unknown-element e v h w.0)) (content-unknown h bs b e v n w.1 k)
@@ -714,11 +727,12 @@ content-opens (PendingName letters) b e v n =
     end-name-opens (may_be_name_of e (letters ++ b ∷ [])) (is_name_of e letters) (class_of b) b e v letters refl n
 content-opens PendingBang b e v n = bang-opens (class_of b) b e v n
 content-opens PendingBangDash b e v n = loose-opens (class_of b) b e (fed_state languages v (codes "<!-"))
+content-opens (PendingOpening letters) b e v n = loose-opens (class_of b) b e (fed_state languages v (codes "<" ++ letters))
 
 pub next-opens-none : (s : LexState ValueState) (b : ℕ) → OpensNone s → is_in_beginning s ≡ true
     → is_in_beginning (next languages Template s (class_of b) b) ≡ true → OpensNone (next languages Template s (class_of b) b)
 next-opens-none (AttributeValue q t v r) b n h k = opens-next (ends_value q (class_of b)) q t v r b n k
-next-opens-none (InContent e (InLanguage v) x) b n h k = content-opens x b e v n
+next-opens-none (InContent e (InLanguage (OfStyle s)) x) b n h k = content-opens x b e (OfStyle s) n
 next-opens-none _ b n h k = absurd (no h)
 
 pub node-unknown : (bytes : List ℕ) (s : LexState ValueState) → OpensNone s → is_in_beginning s ≡ true → Keeps bytes s

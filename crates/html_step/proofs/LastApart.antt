@@ -4,11 +4,10 @@ use Rattle.std.specs.Prelude.{IfSome, if◌then◌else◌}
 use Rattle.place_core.specs.page.Classes.{class_of}
 use Rattle.place_core.specs.page.Html.{next}
 use Rattle.place_core.specs.page.References.{Reference, Closed, Open}
-use Rattle.place_core.specs.page.States.{Template, LexState, Text, TagOpen, EndTagOpen, DeclarationOpen, CommentState, Started, StartedDash, Inside, Dash, DashDash, Bang, Broken, InComment, BogusComment, InDoctype, TagName, WholeTagName, BeforeAttributeName, AttributeName, WholeAttributeName, AfterAttributeName, BeforeAttributeValue, AttributeValue, AfterAttributeValue, SelfClosingStartTag, Characters, Bytes, InLanguage, Pending, Nothing, PendingLess, PendingName, PendingBang, PendingBangDash, InContent, Unread, LessAtCut}
-use Rattle.place_core.specs.page.Tags.{Tag, ValueState, OfKind, OfUrl, OfStyle, Quoting, languages, ValueOf, Deciding, is_second_type, OfScript}
+use Rattle.place_core.specs.page.States.{Template, LexState, Text, TagOpen, EndTagOpen, DeclarationOpen, CommentState, Started, StartedDash, Inside, Dash, DashDash, Bang, Broken, InComment, BogusComment, InDoctype, TagName, WholeTagName, BeforeAttributeName, AttributeName, WholeAttributeName, AfterAttributeName, BeforeAttributeValue, AttributeValue, AfterAttributeValue, SelfClosingStartTag, Characters, Bytes, InLanguage, Pending, Nothing, PendingLess, PendingName, PendingBang, PendingBangDash, PendingOpening, InContent, LessAtCut}
+use Rattle.place_core.specs.page.Tags.{Tag, ValueState, OfKind, OfUrl, OfStyle, Quoting, languages, ValueOf, Deciding, is_second_type, OfScript, feed_bytes}
 use Rattle.place_core.specs.place.ApartPlaces.{ArePlacesApart, beginning_at, opened_apart}
 use Rattle.place_core.specs.place.Errors.{PathRefusal, place_before_bytes, shown_place, states, TextRead, nothing_read}
-use Rattle.place_core.specs.place.LastLexeme.{last_lexeme_start}
 use Rattle.place_core.specs.place.PathPairs.{ApartBefore, is_in_reference}
 use Rattle.place_core.specs.place.StatePlaces.{placed, quotes_at}
 use Rattle.place_core.specs.place.UrlParts.{parts_of}
@@ -21,7 +20,7 @@ use Rattle.place_core.specs.declared.prefix.Prefix.{Prefix}
 use Rattle.place_core.specs.declared.value_place.ValuePlace.{ValuePlace}
 use Rattle.place_core.proofs.Semilattices.{one_value}
 use Rattle.url_lexer.specs.Triples.{Triple, NoTriple, AfterPercent, AfterDigit}
-use Rattle.html_scan.specs.Scans.{Scan, At, InStyle, InStyleElement, scan_error, scan_next, scan_shown, scan_reference, style_scan, url_scan, with_style, InScript, script_scan_before, with_body}
+use Rattle.html_scan.specs.Scans.{Scan, At, InStyle, InStyleElement, scan_next, scan_shown, style_scan, url_scan, with_style, InScript, script_scan_before, with_body, pending_left, script_feeding}
 use Rattle.css_step.specs.StyleScans.{StyleScan, is_style_start, style_scan_place}
 use Rattle.css_step.specs.StyleScanLaws.{style_scanned}
 use Rattle.js_lexer.specs.States.{ScriptState}
@@ -39,7 +38,9 @@ use Rattle.html_step.proofs.OnePath.{ends-agree}
 use Rattle.html_step.proofs.PathScans.{Ends, IsShown, WhereScanned, content_scanned, block_scanned, language_scanned, scanned, style_element_scanned, url_value, script_there, script_unless_placed, script_value_scanned}
 use Rattle.html_step.proofs.StyleSteps.{where-styled}
 use Rattle.html_step.proofs.StylePaths.{style_value}
-use Rattle.html_step.proofs.OneTexts.{Reaches, agrees-at, at-place, is-shown-after, none, place-there, goes-on}
+use Rattle.html_step.proofs.OneTexts.{Reaches, at-place, is-shown-after, none, place-there, goes-on}
+use Rattle.html_step.proofs.ScriptElementSteps.{where-script-element}
+use Rattle.place_core.specs.page.Contents.{pending_bytes}
 
 -- what the beginning of a URL spells at a place that is shown, and on a path before the bytes that are left
 abbrev shown_beginning : Option Place → Option Prefix
@@ -98,6 +99,10 @@ shown-script : (v : ValuePlace) (o : Option Js) → shown_beginning (option_map 
 shown-script v (Some j) = refl
 shown-script v None = refl
 
+shown-element : (o : Option Js) → shown_beginning (option_map place.Script o) ≡ None
+shown-element (Some j) = refl
+shown-element None = refl
+
 script-in-begins : (q : Quoting) (t : Tag) (s : ScriptState) (v : ValuePlace) (n : ScriptScan) (r : Reference)
     → BeginsAs (AttributeValue q t (ValueOf (OfScript s)) r) (InScript v n r)
 script-in-begins q t s v n r bs =
@@ -151,6 +156,7 @@ element-begins (PendingName letters) v (Some n) = λ bs. refl
 element-begins LessAtCut v (Some n) = tt
 element-begins PendingBang v (Some n) = tt
 element-begins PendingBangDash v (Some n) = tt
+element-begins (PendingOpening letters) v (Some n) = tt
 element-begins h v None = tt
 
 language-begins : (h : Pending) (e : Element) (v : ValueState)
@@ -159,6 +165,14 @@ language-begins h element.Style (OfStyle s) = element-begins h (OfStyle s) (styl
 language-begins h element.Style (OfKind k) = tt
 language-begins h element.Style (OfUrl u) = tt
 language-begins h element.Style (OfScript s) = tt
+language-begins h element.Script (OfScript s) =
+    where-script-element h s (BeginsAs (InContent element.Script (InLanguage (OfScript s)) h)) (λ j e i bs. refl)
+    (λ n i bs. ap (unless_in_reference (is_in_reference (InContent element.Script (InLanguage (OfScript s)) h) bs))
+    (shown-element (script_scan_shown (feed_bytes script_feeding n (pending_bytes (pending_left element.Script h bs)))))
+    ∙ none-within (is_in_reference (InContent element.Script (InLanguage (OfScript s)) h) bs))
+language-begins h element.Script (OfKind k) = tt
+language-begins h element.Script (OfUrl u) = tt
+language-begins h element.Script (OfStyle s) = tt
 language-begins h _ v = tt
 
 begins : (s : LexState ValueState) → WhereScanned (scanned s) (BeginsAs s)
@@ -200,7 +214,6 @@ begins (SelfClosingStartTag t) = λ bs. refl
 begins (InContent e (Characters r) h) = content-begins h e r
 begins (InContent e Bytes h) = block-begins h e
 begins (InContent e (InLanguage v) h) = language-begins h e v
-begins Unread = tt
 
 abbrev scanned_beginning : Option Scan → List ℕ → Option Prefix
 scanned_beginning None bs = None

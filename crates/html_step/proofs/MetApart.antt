@@ -101,7 +101,7 @@ hole-clear (place.Comment x) = refl
 hole-clear (place.Rcdata e) = refl
 hole-clear (place.Tag t) = tag-clear (t.spots.name || t.spots.inside) t
 hole-clear (place.Value v) = value-clear v.body v refl
-hole-clear (place.Script j) = tt
+hole-clear (place.Script j) = refl
 hole-clear (place.Style c) = element-clear c (style_hole_error c)
 hole-clear (place.Block lt) = block-clear lt
 

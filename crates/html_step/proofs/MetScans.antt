@@ -9,7 +9,7 @@ use Rattle.css_step.specs.StyleScans.{StyleScan, ScanBareUrl, ScanQuotedUrl, is_
 use Rattle.place_core.specs.page.Classes.{class_of}
 use Rattle.place_core.specs.page.Html.{next}
 use Rattle.place_core.specs.page.References.{Reference, Closed, Open}
-use Rattle.place_core.specs.page.States.{Template, LexState, AttributeValue, InContent, InLanguage, Pending, Nothing, PendingLess, LessAtCut, PendingName, PendingBang, PendingBangDash}
+use Rattle.place_core.specs.page.States.{Template, LexState, AttributeValue, InContent, InLanguage, Nothing, PendingLess, LessAtCut, PendingName, PendingBang, PendingBangDash, PendingOpening}
 use Rattle.place_core.specs.declared.element.Element.TheVariants as element
 use Rattle.place_core.specs.page.Tags.{Tag, ValueOf, Deciding, ValueState, OfKind, OfUrl, OfStyle, languages, Quoting, OfScript}
 use Rattle.place_core.specs.place.ApartPlaces.{HasApart, beginning_at}
@@ -19,7 +19,7 @@ use Rattle.place_core.specs.place.PathPairs.{ApartBefore, Keeps, PartWithin, sta
 use Rattle.place_core.specs.place.Places.{Below, IsValid}
 use Rattle.place_core.specs.place.StatePlaces.{placed, quotes_at, value_spot}
 use Rattle.place_core.specs.place.StyleParts.{style_place}
-use Rattle.place_core.specs.place.UrlParts.{parts_of, placed_prefix}
+use Rattle.place_core.specs.place.UrlParts.{parts_of}
 use Rattle.place_core.specs.declared.body.Body.TheVariants as body
 use Rattle.place_core.specs.declared.parts.Parts.{Parts}
 use Rattle.place_core.specs.declared.place.Place.{Place}
@@ -67,7 +67,7 @@ stand-in p s i = record { at = at-place s i.own i.stands; valid = i.valid; below
 pub next-stand : (s : LexState ValueState) (g f : Scan) (b : ℕ) → scan_error f (class_of b) b ≡ None → Stand s g f
     → Stand (next languages Template s (class_of b) b) (scan_next g (class_of b) b) (scan_next f (class_of b) b)
 next-stand s g f b n h =
-    let m = scan-grows g f (class_of b) b h.valid h.below n in
+    let m = scan-grows g f (class_of b) b refl h.valid h.below n in
     record { at = (agrees-at s g b h.at).steps m.0; valid = scan-valid g (class_of b) b h.valid m.0; below = m.1 }
 
 abbrev pub ScanApart : Scan → Type 0
@@ -178,6 +178,7 @@ unknown-placed (InContent x (InLanguage (OfStyle s)) LessAtCut) a h e = absurd (
 unknown-placed (InContent x (InLanguage (OfStyle s)) (PendingName letters)) a h e = absurd (none_some a e)
 unknown-placed (InContent x (InLanguage (OfStyle s)) PendingBang) a h e = absurd (none_some a e)
 unknown-placed (InContent x (InLanguage (OfStyle s)) PendingBangDash) a h e = absurd (none_some a e)
+unknown-placed (InContent x (InLanguage (OfStyle s)) (PendingOpening letters)) a h e = absurd (none_some a e)
 unknown-placed (InContent x (InLanguage (OfKind k)) y) a h e = absurd (no h)
 unknown-placed (InContent x (InLanguage (OfScript k)) y) a h e = absurd (no h)
 unknown-placed (InContent x (InLanguage (OfUrl u)) y) a h e = absurd (no h)
@@ -347,6 +348,7 @@ unknown-in a (InContent x (InLanguage (OfStyle s)) LessAtCut) h e i = absurd (no
 unknown-in a (InContent x (InLanguage (OfStyle s)) (PendingName letters)) h e i = absurd (none_some i.own i.stands)
 unknown-in a (InContent x (InLanguage (OfStyle s)) PendingBang) h e i = absurd (none_some i.own i.stands)
 unknown-in a (InContent x (InLanguage (OfStyle s)) PendingBangDash) h e i = absurd (none_some i.own i.stands)
+unknown-in a (InContent x (InLanguage (OfStyle s)) (PendingOpening letters)) h e i = absurd (none_some i.own i.stands)
 unknown-in a (InContent x (InLanguage (OfKind k)) y) h e i = absurd (no h)
 unknown-in a (InContent x (InLanguage (OfScript k)) y) h e i = absurd (no h)
 unknown-in a (InContent x (InLanguage (OfUrl u)) y) h e i = absurd (no h)

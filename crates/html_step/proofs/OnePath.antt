@@ -6,12 +6,12 @@ use Rattle.css_step.specs.StyleScanLaws.{style_scanned}
 use Rattle.place_core.specs.page.Classes.{Class, White, QuotationMark, Ampersand, Apostrophe, HyphenMinus, Solidus, LessThan, EqualsSign, GreaterThan, GraveAccent, Letter, ExclamationMark, class_of, is_equals_sign}
 use Rattle.place_core.specs.page.Comments.{OpensComment, OpensDoctype, Undecided, OpensNothing, Declaration, declared_by}
 use Rattle.place_core.specs.page.Contents.{may_be_name_of, is_name_of, next_loose, next_less, next_end_name, next_bang}
-use Rattle.place_core.specs.place.Errors.{byte_error, at_hand, content_error, tag_error, bare_error, quotes_error, attribute_name_error, PathCause, fed_error, turned_error, language_error, first_byte_error, is_written, first_cause, first_error, place_before_bytes, value_before, flushed_error, name_error, is_unknown_name}
+use Rattle.place_core.specs.place.Errors.{byte_error, at_hand, tag_error, bare_error, quotes_error, attribute_name_error, PathCause, fed_error, turned_error, language_error, first_byte_error, is_written, first_cause, place_before_bytes, value_before, flushed_error, name_error, is_unknown_name}
 use Rattle.place_core.specs.page.Html.{next, after_tag, next_declaration, next_before_name, next_name, next_after_name, next_before_value, ends_value}
 use Rattle.place_core.specs.page.Paths.{at_cut}
 use Rattle.place_core.specs.page.References.{Reference, settled, undone_byte, as_it_stands, Closed, Open, Form, ReferenceStep, Grows, Closes, Breaks, turn, meaning, flushed, plain_bytes, next_reference}
 use Rattle.place_core.specs.place.StatePlaces.{tag_spot, body_at, only_name, only_before, only_inside, only_after, value_spot, value_body, value_body_before, quotes_at, unbegun, placed}
-use Rattle.place_core.specs.page.States.{Template, LexState, Text, TagOpen, EndTagOpen, DeclarationOpen, CommentState, Started, StartedDash, Inside, Dash, DashDash, Bang, Broken, InComment, BogusComment, InDoctype, TagName, WholeTagName, BeforeAttributeName, AttributeName, WholeAttributeName, AfterAttributeName, BeforeAttributeValue, AttributeValue, AfterAttributeValue, SelfClosingStartTag, Characters, Bytes, InLanguage, Pending, Nothing, PendingLess, PendingName, PendingBang, PendingBangDash, InContent, Unread, LessAtCut}
+use Rattle.place_core.specs.page.States.{Template, LexState, Text, TagOpen, EndTagOpen, DeclarationOpen, CommentState, Started, StartedDash, Inside, Dash, DashDash, Bang, Broken, InComment, BogusComment, InDoctype, TagName, WholeTagName, BeforeAttributeName, AttributeName, WholeAttributeName, AfterAttributeName, BeforeAttributeValue, AttributeValue, AfterAttributeValue, SelfClosingStartTag, Characters, Bytes, InLanguage, Pending, Nothing, PendingLess, PendingName, PendingBang, PendingBangDash, PendingOpening, InContent, LessAtCut}
 use Rattle.place_core.specs.page.Tags.{Tag, Value, ValueOf, Deciding, ValueState, OfKind, OfUrl, OfStyle, OfScript, languages, feeding, feed_bytes, refusal_code, refuses_names_in, refuses_cut_of, attribute_value_of, tag_of_name, element_on, is_start, tag_by_type, with_bytes, tag_with_value, without_value, Quoting, DoubleQuoted, SingleQuoted, Unquoted, is_second_type, typed_by, cut_value}
 use Rattle.place_core.specs.page.Words.{kind_of, is_script_type}
 use Rattle.place_core.specs.place.UrlParts.{parts_of}
@@ -139,8 +139,8 @@ url-scan-facts s v AfterDigit r = tt
 pub only-hand : (o p : Option PathCause) → o ≡ None → first_cause o p ≡ p
 only-hand o p e = rw e refl
 
-tag-ends-with : (t : Tag) (k : Kind) → content_error t.tag ≡ None → scanned (after_tag languages (without_value t k).tag) ≡ Some (content_scan t.tag)
-tag-ends-with t k n = rw (same-tag t k) (tag-ends t.tag n)
+tag-ends-with : (t : Tag) (k : Kind) → scanned (after_tag languages (without_value t k).tag) ≡ Some (content_scan t.tag)
+tag-ends-with t k = rw (same-tag t k) (tag-ends t.tag)
 
 value-begins : (t : Tag) (typed : Bool) (k : Kind) → is_second_type t.typed k ≡ false → typed ≡ (without_value t k).typed
     → scanned (BeforeAttributeValue t k) ≡ Some (value_scan t.tag typed (Some k))
@@ -205,20 +205,20 @@ doctype-steps _ b = record { errors = refl; scripts = λ k places w. (refl, refl
 tag-name-steps : (ends : Bool) (name : List ℕ) (c : Class) (b : ℕ) → Agrees (TagName ends name) (InTagName ends name) c b
 tag-name-steps ends name White b = record { errors = refl; scripts = λ k places w. (refl, refl, λ h. refl); steps = λ n. refl }
 tag-name-steps ends name Solidus b = record { errors = refl; scripts = λ k places w. (refl, refl, λ h. refl); steps = λ n. refl }
-tag-name-steps ends name GreaterThan b = record { errors = refl; scripts = λ k places w. (refl, refl, λ h. refl); steps = λ n. tag-ends (tag_of_name ends name) (none-at-hand _ n) }
+tag-name-steps ends name GreaterThan b = record { errors = refl; scripts = λ k places w. (refl, refl, λ h. refl); steps = λ n. tag-ends (tag_of_name ends name) }
 tag-name-steps ends name _ b = record { errors = refl; scripts = λ k places w. (refl, refl, λ h. refl); steps = λ n. refl }
 
 whole-tag-steps : (t : Tag) (c : Class) (b : ℕ) → Agrees (WholeTagName t) (At (place.Tag (tag_spot t only_name None))) c b
 whole-tag-steps t White b = record { errors = refl; scripts = λ k places w. (refl, refl, λ h. refl); steps = λ n. refl }
 whole-tag-steps t Solidus b = record { errors = refl; scripts = λ k places w. (refl, refl, λ h. refl); steps = λ n. refl }
-whole-tag-steps t GreaterThan b = record { errors = refl; scripts = λ k places w. (refl, refl, λ h. refl); steps = λ n. tag-ends t.tag (none-at-hand _ n) }
+whole-tag-steps t GreaterThan b = record { errors = refl; scripts = λ k places w. (refl, refl, λ h. refl); steps = λ n. tag-ends t.tag }
 whole-tag-steps t _ b = record { errors = refl; scripts = λ k places w. (refl, refl, λ h. refl); steps = λ n. absurd (some _ n) }
 
 -- before a name, also after a quoted value and after a solidus
 before-next : (t : Tag) (c : Class) (b : ℕ) → at_hand (tag_error (tag_spot t only_before None) c) ≡ None → scanned (next_before_name languages c b t) ≡ Some (tag_next (tag_spot t only_before None) c b)
 before-next t White b n = refl
 before-next t Solidus b n = refl
-before-next t GreaterThan b n = tag-ends t.tag (none-at-hand _ n)
+before-next t GreaterThan b n = tag-ends t.tag
 before-next t EqualsSign b n = absurd (some _ n)
 before-next t QuotationMark b n = absurd (some _ n)
 before-next t Apostrophe b n = absurd (some _ n)
@@ -229,7 +229,7 @@ attribute-next : (t : Tag) (k : Kind) (name : List ℕ) (c : Class) (b : ℕ) �
     → scanned (next_name languages c b t k name) ≡ Some (attribute_name_next c b t.tag t.typed k name)
 attribute-next t k name White b n = rw (same-typed t k) (not-second t k _ (unless-first (is_second_type t.typed k) (length name) None n))
 attribute-next t k name Solidus b n = rw (same-tag t k, same-typed t k) refl
-attribute-next t k name GreaterThan b n = tag-ends-with t k (none-unless (is_second_type t.typed k) (length name) (content_error t.tag) n)
+attribute-next t k name GreaterThan b n = tag-ends-with t k
 attribute-next t k name EqualsSign b n =
     value-begins-here t k (unless-first (is_second_type t.typed k) (length name) None n)
 attribute-next t k name QuotationMark b n = absurd (some _ n)
@@ -244,7 +244,7 @@ whole-name-next : (t : Tag) (k : Kind) (c : Class) (b : ℕ) → is_second_type 
     → scanned (next_after_name languages c b t k) ≡ Some (tag_next (tag_spot t only_inside (Some k)) c b)
 whole-name-next t k White b f n = not-second t k _ f
 whole-name-next t k Solidus b f n = rw (same-tag t k) refl
-whole-name-next t k GreaterThan b f n = tag-ends-with t k (none-at-hand _ n)
+whole-name-next t k GreaterThan b f n = tag-ends-with t k
 whole-name-next t k EqualsSign b f n = value-begins t ((without_value t k).typed) k f refl
 whole-name-next t k _ b f n = absurd (some _ n)
 
@@ -252,7 +252,7 @@ after-name-next : (t : Tag) (k : Kind) (c : Class) (b : ℕ) → is_second_type 
     → scanned (next_after_name languages c b t k) ≡ Some (tag_next (tag_spot t only_after (Some k)) c b)
 after-name-next t k White b f n = not-second t k _ f
 after-name-next t k Solidus b f n = rw (same-tag t k) refl
-after-name-next t k GreaterThan b f n = tag-ends-with t k (none-at-hand _ n)
+after-name-next t k GreaterThan b f n = tag-ends-with t k
 after-name-next t k EqualsSign b f n = value-begins t ((without_value t k).typed) k f refl
 after-name-next t k QuotationMark b f n = absurd (some _ n)
 after-name-next t k Apostrophe b f n = absurd (some _ n)
@@ -287,7 +287,7 @@ unbegun-next : (t : Tag) (k : Kind) (x : Body) (c : Class) (b : ℕ) → StaysBo
 unbegun-next t k x White b g e u v n = rw v (rw e refl)
 unbegun-next t k x QuotationMark b g e u v n = rw v (rw e refl)
 unbegun-next t k x Apostrophe b g e u v n = rw v (rw e refl)
-unbegun-next t k x GreaterThan b g e u v n = rw u (tag-ends t.tag (none-at-hand _ n))
+unbegun-next t k x GreaterThan b g e u v n = rw u (tag-ends t.tag)
 unbegun-next t k x LessThan b g e u v n = absurd (some _ n)
 unbegun-next t k x EqualsSign b g e u v n = absurd (some _ n)
 unbegun-next t k x GraveAccent b g e u v n = absurd (some _ n)
@@ -317,7 +317,7 @@ value-next DoubleQuoted t k x r c b g e n = own-next (undone_byte true r c b) Do
 value-next SingleQuoted t k x r Apostrophe b g e n = rw (same-with t (settled true r) (OfKind k)) refl
 value-next SingleQuoted t k x r c b g e n = own-next (undone_byte true r c b) SingleQuoted t k x (next_reference r c b) c b g e
 value-next Unquoted t k x r White b g e n = rw (same-with t (settled true r) (OfKind k)) refl
-value-next Unquoted t k x r GreaterThan b g e n = rw (same-with t (settled true r) (OfKind k)) (tag-ends t.tag (none-at-hand (content_error t.tag) n))
+value-next Unquoted t k x r GreaterThan b g e n = rw (same-with t (settled true r) (OfKind k)) (tag-ends t.tag)
 value-next Unquoted t k x r QuotationMark b g e n = absurd (some _ n)
 value-next Unquoted t k x r Apostrophe b g e n = absurd (some _ n)
 value-next Unquoted t k x r LessThan b g e n = absurd (some _ n)
@@ -344,7 +344,7 @@ url-next DoubleQuoted t u r c b n = url-fed DoubleQuoted t u (undone_byte true r
 url-next SingleQuoted t u r Apostrophe b n = rw (same-with t (settled true r) (OfUrl u)) refl
 url-next SingleQuoted t u r c b n = url-fed SingleQuoted t u (undone_byte true r c b) (next_reference r c b)
 url-next Unquoted t u r White b n = rw (same-with t (settled true r) (OfUrl u)) refl
-url-next Unquoted t u r GreaterThan b n = rw (same-with t (settled true r) (OfUrl u)) (tag-ends t.tag (none-at-hand (content_error t.tag) n))
+url-next Unquoted t u r GreaterThan b n = rw (same-with t (settled true r) (OfUrl u)) (tag-ends t.tag)
 url-next Unquoted t u r QuotationMark b n = absurd (some _ n)
 url-next Unquoted t u r Apostrophe b n = absurd (some _ n)
 url-next Unquoted t u r LessThan b n = absurd (some _ n)
@@ -357,7 +357,7 @@ begin-url : (t : Tag) (c : Class) (b : ℕ) → at_hand (bare_error t.tag (recor
 begin-url t White b n = refl
 begin-url t QuotationMark b n = refl
 begin-url t Apostrophe b n = refl
-begin-url t GreaterThan b n = tag-ends t.tag (none-at-hand _ n)
+begin-url t GreaterThan b n = tag-ends t.tag
 begin-url t LessThan b n = absurd (some _ n)
 begin-url t EqualsSign b n = absurd (some _ n)
 begin-url t GraveAccent b n = absurd (some _ n)
@@ -429,9 +429,9 @@ after-typed : (t : Tag) (z : Value ValueState) → Typed z → t.typed ≡ false
     → scanned (BeforeAttributeName (tag_with_value t z)) ≡ Some (in_tag (type_tag t.tag z) (is_start (type_tag t.tag z)) only_before None)
 after-typed t z o e = rw o.is (rw (ending-typed t (Deciding kind.ScriptType o.value) e, same-type-typed t o.value e) refl)
 
-content-typed : (t : Tag) (z : Value ValueState) → t.typed ≡ false → content_error (type_tag t.tag z) ≡ None
+content-typed : (t : Tag) (z : Value ValueState) → t.typed ≡ false
     → scanned (after_tag languages (tag_with_value t z).tag) ≡ Some (content_scan (type_tag t.tag z))
-content-typed t z e n = rw (ending-typed t z e) (tag-ends (type_tag t.tag z) n)
+content-typed t z e = rw (ending-typed t z e) (tag-ends (type_tag t.tag z))
 
 type-next : (q : Quoting) (t : Tag) (before : List ℕ) (r : Reference) (c : Class) (b : ℕ) → class_of b ≡ c → t.typed ≡ false
     → at_hand (quotes_error (type_tag t.tag (ended_type (Deciding kind.ScriptType before) r)) (quotes_at q) c) ≡ None
@@ -443,7 +443,7 @@ type-next SingleQuoted t before r Apostrophe b i e n = after-typed t (ended_type
 type-next SingleQuoted t before r c b i e n =
     rw i (type-goes SingleQuoted t (with_bytes languages (Deciding kind.ScriptType before) (undone_byte true r c b)) (next_reference r c b) (type-stays before (undone_byte true r c b)) e)
 type-next Unquoted t before r White b i e n = after-typed t (ended_type (Deciding kind.ScriptType before) r) (type-stays before (settled true r)) e
-type-next Unquoted t before r GreaterThan b i e n = content-typed t (ended_type (Deciding kind.ScriptType before) r) e (none-at-hand _ n)
+type-next Unquoted t before r GreaterThan b i e n = content-typed t (ended_type (Deciding kind.ScriptType before) r) e
 type-next Unquoted t before r QuotationMark b i e n = absurd (some _ n)
 type-next Unquoted t before r Apostrophe b i e n = absurd (some _ n)
 type-next Unquoted t before r LessThan b i e n = absurd (some _ n)
@@ -457,7 +457,7 @@ begin-type : (t : Tag) (c : Class) (b : ℕ) → class_of b ≡ c → t.typed �
 begin-type t White b i e n = not-second t kind.ScriptType (BeforeType t.tag) e
 begin-type t QuotationMark b i e n = not-second t kind.ScriptType (InType t.tag DoubleQuoted (Deciding kind.ScriptType []) Closed) e
 begin-type t Apostrophe b i e n = not-second t kind.ScriptType (InType t.tag SingleQuoted (Deciding kind.ScriptType []) Closed) e
-begin-type t GreaterThan b i e n = tag-ends-with t kind.ScriptType (none-at-hand _ n) ∙ ap (λ (u : TagOf). Some (content_scan u)) (sym (same-tag t kind.ScriptType) ∙ ending-typed t (Deciding kind.ScriptType []) e)
+begin-type t GreaterThan b i e n = tag-ends-with t kind.ScriptType ∙ ap (λ (u : TagOf). Some (content_scan u)) (sym (same-tag t kind.ScriptType) ∙ ending-typed t (Deciding kind.ScriptType []) e)
 begin-type t LessThan b i e n = absurd (some _ n)
 begin-type t EqualsSign b i e n = absurd (some _ n)
 begin-type t GraveAccent b i e n = absurd (some _ n)
@@ -526,13 +526,16 @@ content-steps LessAtCut element.Textarea r c b = tt
 content-steps PendingBang element.Title r c b = tt
 content-steps PendingBang element.Textarea r c b = tt
 content-steps PendingBangDash element.Title r c b = tt
+content-steps (PendingOpening letters) element.Title r c b = tt
 content-steps PendingBangDash element.Textarea r c b = tt
+content-steps (PendingOpening letters) element.Textarea r c b = tt
 content-steps Nothing _ r c b = tt
 content-steps PendingLess _ r c b = tt
 content-steps LessAtCut _ r c b = tt
 content-steps (PendingName letters) _ r c b = tt
 content-steps PendingBang _ r c b = tt
 content-steps PendingBangDash _ r c b = tt
+content-steps (PendingOpening letters) _ r c b = tt
 
 -- data blocks
 block-loose : (c : Class) (b : ℕ) → scanned (next_loose languages c b element.DataBlock Bytes) ≡ Some (content_next c element.DataBlock)
@@ -578,12 +581,14 @@ block-steps (PendingName letters) element.DataBlock c b = record {
 }
 block-steps PendingBang element.DataBlock c b = record { errors = refl; scripts = λ k places w. (refl, refl, λ h. refl); steps = λ n. block-bang c b }
 block-steps PendingBangDash element.DataBlock c b = record { errors = refl; scripts = λ k places w. (refl, refl, λ h. refl); steps = λ n. block-loose c b }
+block-steps (PendingOpening letters) element.DataBlock c b = tt
 block-steps Nothing _ c b = tt
 block-steps LessAtCut _ c b = tt
 block-steps PendingLess _ c b = tt
 block-steps (PendingName letters) _ c b = tt
 block-steps PendingBang _ c b = tt
 block-steps PendingBangDash _ c b = tt
+block-steps (PendingOpening letters) _ c b = tt
 
 unbegun-errors : (t : Tag) (k : Kind) (c : Class) (b : ℕ) → IsNoUrl (attribute_value_of languages k)
     → byte_error (BeforeAttributeValue t k) c b ≡ at_hand (bare_error t.tag (record { uq = false; unbegun = true }) c)
@@ -655,7 +660,6 @@ agrees (SelfClosingStartTag t) c b i = record { errors = refl; scripts = λ k pl
 agrees (InContent e (Characters r) h) c b i = content-steps h e r c b
 agrees (InContent e Bytes h) c b i = block-steps h e c b
 agrees (InContent e (InLanguage v) h) c b i = language-steps h e v c b
-agrees Unread c b i = tt
 
 content-ends : (h : Pending) (e : Element) (r : Reference) → WhereScanned (content_scanned h e) (Ends (InContent e (Characters r) h))
 content-ends Nothing element.Title r = record { errors = refl; scripts = λ k places. refl; facts = tt; lexeme = λ n. refl; reference = refl; place = λ n. refl; shown = λ bs h. refl }
@@ -669,13 +673,16 @@ content-ends LessAtCut element.Textarea r = tt
 content-ends PendingBang element.Title r = tt
 content-ends PendingBang element.Textarea r = tt
 content-ends PendingBangDash element.Title r = tt
+content-ends (PendingOpening letters) element.Title r = tt
 content-ends PendingBangDash element.Textarea r = tt
+content-ends (PendingOpening letters) element.Textarea r = tt
 content-ends Nothing _ r = tt
 content-ends LessAtCut _ r = tt
 content-ends PendingLess _ r = tt
 content-ends (PendingName letters) _ r = tt
 content-ends PendingBang _ r = tt
 content-ends PendingBangDash _ r = tt
+content-ends (PendingOpening letters) _ r = tt
 
 block-ends : (h : Pending) (e : Element) → WhereScanned (block_scanned h e) (Ends (InContent e Bytes h))
 block-ends Nothing element.DataBlock = record { errors = refl; scripts = λ k places. refl; facts = tt; lexeme = λ n. refl; reference = refl; place = λ n. refl; shown = λ bs h. refl }
@@ -684,12 +691,14 @@ block-ends PendingLess element.DataBlock = record { errors = refl; scripts = λ 
 block-ends (PendingName letters) element.DataBlock = record { errors = refl; scripts = λ k places. refl; facts = tt; lexeme = λ n. refl; reference = refl; place = λ n. refl; shown = λ bs h. refl }
 block-ends PendingBang element.DataBlock = record { errors = refl; scripts = λ k places. refl; facts = tt; lexeme = λ n. refl; reference = refl; place = λ n. refl; shown = λ bs h. refl }
 block-ends PendingBangDash element.DataBlock = record { errors = refl; scripts = λ k places. refl; facts = tt; lexeme = λ n. refl; reference = refl; place = λ n. refl; shown = λ bs h. refl }
+block-ends (PendingOpening letters) element.DataBlock = tt
 block-ends Nothing _ = tt
 block-ends LessAtCut _ = tt
 block-ends PendingLess _ = tt
 block-ends (PendingName letters) _ = tt
 block-ends PendingBang _ = tt
 block-ends PendingBangDash _ = tt
+block-ends (PendingOpening letters) _ = tt
 
 comment-ends : (s : CommentState) → Ends (InComment s) (comment_scan s)
 comment-ends Inside = record { errors = refl; scripts = λ k places. refl; facts = tt; lexeme = λ n. refl; reference = refl; place = λ n. refl; shown = λ bs h. refl }
@@ -917,4 +926,3 @@ ends-agree (SelfClosingStartTag t) = record { errors = refl; scripts = λ k plac
 ends-agree (InContent e (Characters r) h) = content-ends h e r
 ends-agree (InContent e Bytes h) = block-ends h e
 ends-agree (InContent e (InLanguage v) h) = language-ends h e v
-ends-agree Unread = tt

@@ -3,15 +3,16 @@ use Rattle.std.proofs.Common.{◌≡◌, ◌≤◌, ℕ, ◌+◌, ◌-◌, zero,
 use Rattle.std.specs.Prelude.{⊤, is_some, if◌then◌else◌}
 use Rattle.std.specs.Option.{option_map}
 use Rattle.place_core.specs.page.Classes.{Class, White, Solidus, GreaterThan, Letter, class_of}
-use Rattle.place_core.specs.place.Errors.{PathCause, PathRefusal, PathRefuses, TextRead, at_hand, before_cause, deep_behind, end_name_error, fed_behind, fed_places, first_path_refusal, first_places, nests_too_deep, nothing_read, one_script, read_behind, script_byte_refusal, script_cut_refusal, unless_in_script, first_cause, less_error, loose_byte_error, name_goes_on, pending_before, pending_error, split_error, unless_it_goes_on, refusal_from, standing_at, node, or_place, place_before_bytes, shown_from, shown_place, broken_off, lexeme_error}
+use Rattle.place_core.specs.place.Errors.{PathCause, PathRefusal, PathRefuses, TextRead, at_hand, before_cause, deep_behind, end_name_error, fed_behind, fed_places, first_path_refusal, first_places, nests_too_deep, nothing_read, one_script, read_behind, script_byte_refusal, script_cut_refusal, unless_in_script, first_cause, less_error, loose_byte_error, name_goes_on, pending_before, pending_error, split_error, unless_it_goes_on, refusal_from, node, or_place, place_before_bytes, shown_from, shown_place, broken_off, lexeme_error}
 use Rattle.place_core.specs.place.LastLexeme.{language_reference}
 use Rattle.place_core.specs.page.Contents.{is_name_of, may_be_name_of, pending_bytes}
 use Rattle.place_core.specs.page.Html.{ends_value, next}
 use Rattle.place_core.specs.page.References.{Reference, Closed, Open}
 use Rattle.place_core.specs.place.UrlParts.{parts_of}
+use Rattle.place_core.specs.place.ScriptParts.{script_js}
 use Rattle.place_core.specs.place.StyleParts.{style_body, style_css}
 use Rattle.place_core.specs.place.StatePlaces.{placed, quotes_at, value_spot}
-use Rattle.place_core.specs.page.States.{Template, LexState, Text, TagOpen, EndTagOpen, DeclarationOpen, Started, StartedDash, Inside, Dash, DashDash, Bang, Broken, InComment, BogusComment, InDoctype, TagName, WholeTagName, BeforeAttributeName, AttributeName, WholeAttributeName, AfterAttributeName, BeforeAttributeValue, AttributeValue, AfterAttributeValue, SelfClosingStartTag, Characters, Bytes, InLanguage, Pending, Nothing, PendingLess, PendingName, PendingBang, PendingBangDash, InContent, Unread, LessAtCut}
+use Rattle.place_core.specs.page.States.{Template, LexState, Text, TagOpen, EndTagOpen, DeclarationOpen, Started, StartedDash, Inside, Dash, DashDash, Bang, Broken, InComment, BogusComment, InDoctype, TagName, WholeTagName, BeforeAttributeName, AttributeName, WholeAttributeName, AfterAttributeName, BeforeAttributeValue, AttributeValue, AfterAttributeValue, SelfClosingStartTag, Characters, Bytes, InLanguage, Pending, Nothing, PendingLess, PendingName, PendingBang, PendingBangDash, PendingOpening, InContent, LessAtCut}
 use Rattle.place_core.specs.page.Tags.{Tag, ValueState, OfKind, OfUrl, OfStyle, OfScript, Quoting, languages, ValueOf, Deciding, feed_bytes, is_second_type}
 use Rattle.css_lexer.specs.States.{Style}
 use Rattle.css_step.specs.StyleScans.{StyleScan, style_scan_place}
@@ -27,7 +28,7 @@ use Rattle.place_core.specs.declared.value_place.ValuePlace.{ValuePlace}
 use Rattle.js_lexer.specs.Holes.{script_after_cut}
 use Rattle.js_lexer.specs.States.{script_start}
 use Rattle.js_step.specs.ScriptScans.{ScriptScan}
-use Rattle.html_scan.specs.Scans.{Scan, At, InScript, InStyle, InStyleElement, element_cause, scan_deep_behind, scan_fed_behind, scan_script_cut_refusal, scan_script_refusal, pending_left, style_less_cause, scan_next, scan_error, scan_place, scan_cut_error, scan_lexeme_error, scan_shown, scan_reference, style_feeding, url_scan, with_body, with_style}
+use Rattle.html_scan.specs.Scans.{Scan, At, InScript, InStyle, InScriptElement, InStyleElement, element_cause, scan_deep_behind, scan_fed_behind, scan_script_cut_refusal, scan_script_refusal, pending_left, style_less_cause, scan_next, scan_error, scan_place, scan_cut_error, scan_lexeme_error, scan_shown, scan_reference, style_feeding, url_scan, with_body, with_style}
 use Rattle.html_step.specs.Laws.{OneBefore, OneText}
 use Rattle.html_step.specs.Steps.{after_text, scan_after, scan_read_behind, stepped, unless_refused, unless_broken_off, unless_script_refused, unless_too_deep, place_before, with_place_before, or_shown, shown_scan}
 use Rattle.html_step.proofs.ElementSteps.{body-css}
@@ -36,6 +37,8 @@ use Rattle.html_step.proofs.ScriptPlaces.{AreBelow, ReferenceBelow, RefusalBelow
 use Rattle.html_step.proofs.ScriptReads.{ReadFits, begins-fits, fits-next, nil-fits, read-fits}
 use Rattle.html_step.proofs.ScriptShown.{script-broken, script-end}
 pub use Rattle.html_step.proofs.ScriptShown.{Reaches}
+use Rattle.html_step.proofs.ScriptElementReached.{script-between, script-element-shown}
+use Rattle.html_step.proofs.ScriptElementSteps.{script-element-at-place}
 use Rattle.html_step.proofs.ScriptSteps.{script-at-place}
 use Rattle.html_step.proofs.PathScans.{FitsFed, IsScriptShown, TakesEnd, scanned, style_element_scanned, style_value_scanned, url_value, Agrees, Ends, IsShown, WhereScanned, refused_next}
 use Rattle.html_step.proofs.StylePaths.{HasValue, StandsHere, end-here, first-here, one-css, style-at-place, style_value}
@@ -137,7 +140,10 @@ at-place (InContent element.Style (InLanguage (OfScript s)) Nothing) p e = absur
 at-place (InContent element.Title (InLanguage v) Nothing) p e = absurd (none e)
 at-place (InContent element.Textarea (InLanguage v) Nothing) p e = absurd (none e)
 at-place (InContent element.DataBlock (InLanguage v) Nothing) p e = absurd (none e)
-at-place (InContent element.Script (InLanguage v) Nothing) p e = absurd (none e)
+at-place (InContent element.Script (InLanguage (OfScript s)) Nothing) p e = script-element-at-place s p (script_js s) refl e
+at-place (InContent element.Script (InLanguage (OfKind k)) Nothing) p e = absurd (none e)
+at-place (InContent element.Script (InLanguage (OfUrl u)) Nothing) p e = absurd (none e)
+at-place (InContent element.Script (InLanguage (OfStyle s)) Nothing) p e = absurd (none e)
 at-place (InContent element.Other (InLanguage v) Nothing) p e = absurd (none e)
 at-place (InContent x (InLanguage v) LessAtCut) p e = absurd (none e)
 at-place (InContent x (Characters r) LessAtCut) p e = absurd (none e)
@@ -151,7 +157,7 @@ at-place (InContent x y PendingLess) p e = absurd (none e)
 at-place (InContent x y (PendingName letters)) p e = absurd (none e)
 at-place (InContent x y PendingBang) p e = absurd (none e)
 at-place (InContent x y PendingBangDash) p e = absurd (none e)
-at-place Unread p e = absurd (none e)
+at-place (InContent x y (PendingOpening letters)) p e = absurd (none e)
 
 pub agrees-at : (s : LexState ValueState) (f : Scan) (b : ℕ) → scanned s ≡ Some f → Agrees s f (class_of b) b
 agrees-at s f b e = subst (λ (o : Option Scan). WhereScanned o (λ g. Agrees s g (class_of b) b)) e (agrees s (class_of b) b refl)
@@ -307,6 +313,7 @@ stands-here j n (Some x) r (inr h) = inr (not-before j n x.shown h)
 abbrev pub IsBetween : Scan → Type 0
 IsBetween (InStyleElement n h) = h ≡ Nothing
 IsBetween (InScript v n r) = r ≡ Closed
+IsBetween (InScriptElement n h) = h ≡ Nothing
 IsBetween f = scan_reference f ≡ Closed
 
 abbrev pub BeginsClosed : ℕ → Scan → Type 0
@@ -355,23 +362,27 @@ pending-here n (PendingName letters) c b k =
     name-here n (may_be_name_of element.Style (letters ++ b ∷ [])) (is_name_of element.Style letters) c b letters k
 pending-here n PendingBang c b k = released-here n (codes "<!") (loose-rest n (codes "<!") c b) k
 pending-here n PendingBangDash c b k = released-here n (codes "<!-") (loose-rest n (codes "<!-") c b) k
+pending-here n (PendingOpening letters) c b k = released-here n (codes "<" ++ letters) (loose-rest n (codes "<" ++ letters) c b) k
 
 abbrev pub IsNoScriptScan : Scan → Type 0
 IsNoScriptScan (InScript v n r) = ⊥
+IsNoScriptScan (InScriptElement n h) = ⊥
 IsNoScriptScan f = Unit {0}
 
 pub stands-shown : (f : Scan) (bs : List ℕ) → IsNoScriptScan f → StandsHere (refused_next f bs) → IsShown f bs
 stands-shown (InStyleElement n h) [] i k = released-here n (pending_bytes h) (split_error style_less_cause n h) k
 stands-shown (InStyleElement n h) (b ∷ bs) i k = pending-here n h (class_of b) b k
 stands-shown (InScript v n r) bs i k = absurd i
+stands-shown (InScriptElement n h) bs i k = absurd i
 stands-shown _ bs i k = inr k
 
-none-shown : (n : StyleScan) (bs : List ℕ) → PendingTaken n (pending_left Nothing bs)
+none-shown : (n : StyleScan) (bs : List ℕ) → PendingTaken n (pending_left element.Style Nothing bs)
 none-shown n [] = refl
 none-shown n (b ∷ bs) = refl
 
 between-shown : (f : Scan) (bs : List ℕ) → IsBetween f → IsShown f bs
-between-shown (InStyleElement n h) bs e = subst (λ (x : Pending). PendingTaken n (pending_left x bs)) (sym e) (none-shown n bs)
+between-shown (InStyleElement n h) bs e = subst (λ (x : Pending). PendingTaken n (pending_left element.Style x bs)) (sym e) (none-shown n bs)
+between-shown (InScriptElement n h) bs e = script-between n h bs e
 between-shown (InScript v n r) bs e = subst (λ (x : Reference). IsScriptShown n x bs) (sym e) tt
 between-shown _ bs e = inl e
 
@@ -392,6 +403,7 @@ script-is-shown k n since (b ∷ bs) v m (Open f bytes) g l h r =
 is-shown : (k n : ℕ) (since : TextRead) (bytes : List ℕ) (s : LexState ValueState) (f : Scan) → scanned s ≡ Some f → ReadFits k since s
     → BeginsClosed k f → Reaches (k + n) (stepped k since bytes f) → IsShown f bytes
 is-shown k n since bytes s (At p) e w c r = inl refl
+is-shown k n since bytes s (InScriptElement m h) e w c r = script-element-shown k n since bytes m h (ends-at s (InScriptElement m h) e).facts c r
 is-shown k n since bytes s (InScript v m x) e w c r =
     let facts = (ends-at s (InScript v m x) e).facts in
     script-is-shown k n since bytes v m x facts.0 (subst (ReferenceBelow k) facts.1 w.reference) w.below r

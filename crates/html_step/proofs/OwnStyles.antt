@@ -5,7 +5,7 @@ use Rattle.css_step.specs.StyleScanLaws.{style_scanned}
 use Rattle.place_core.specs.page.References.{Reference, Closed, Open}
 use Rattle.place_core.specs.place.StatePlaces.{only_after, only_inside, quotes_at, tag_spot}
 use Rattle.place_core.specs.place.UrlParts.{parts_of}
-use Rattle.place_core.specs.page.States.{LexState, Text, TagOpen, EndTagOpen, DeclarationOpen, InComment, Inside, Broken, BogusComment, InDoctype, TagName, WholeTagName, BeforeAttributeName, AttributeName, WholeAttributeName, AfterAttributeName, BeforeAttributeValue, AttributeValue, AfterAttributeValue, SelfClosingStartTag, Characters, Bytes, InLanguage, Pending, Nothing, PendingLess, PendingName, PendingBang, PendingBangDash, InContent, Unread, LessAtCut}
+use Rattle.place_core.specs.page.States.{LexState, Text, TagOpen, EndTagOpen, DeclarationOpen, InComment, Inside, Broken, BogusComment, InDoctype, TagName, WholeTagName, BeforeAttributeName, AttributeName, WholeAttributeName, AfterAttributeName, BeforeAttributeValue, AttributeValue, AfterAttributeValue, SelfClosingStartTag, Characters, Bytes, InLanguage, Pending, Nothing, PendingLess, PendingName, PendingBang, PendingBangDash, PendingOpening, InContent, LessAtCut}
 use Rattle.place_core.specs.page.Tags.{Tag, Value, ValueOf, Deciding, ValueState, OfKind, OfUrl, OfStyle, OfScript, Quoting, DoubleQuoted, SingleQuoted, Unquoted, is_second_type}
 use Rattle.place_core.specs.declared.body.Body.{Body}
 use Rattle.place_core.specs.declared.body.Body.TheVariants as body
@@ -25,6 +25,7 @@ use Rattle.html_step.proofs.PathScans.{WhereScanned, block_scanned, content_scan
 use Rattle.html_step.proofs.ScriptSteps.{where-scripted}
 use Rattle.html_step.proofs.StylePaths.{empty_css, style_value}
 use Rattle.url_lexer.specs.Triples.{Triple, NoTriple, AfterPercent, AfterDigit}
+use Rattle.html_step.proofs.ScriptElementSteps.{where-script-element}
 
 no : true ≡ false → ⊥
 no e = cc
@@ -55,6 +56,7 @@ content-empty (PendingName l) element.Textarea = tt
 content-empty LessAtCut e = tt
 content-empty PendingBang e = tt
 content-empty PendingBangDash e = tt
+content-empty (PendingOpening letters) e = tt
 content-empty Nothing _ = tt
 content-empty PendingLess _ = tt
 content-empty (PendingName l) _ = tt
@@ -66,12 +68,14 @@ block-empty PendingLess element.DataBlock = tt
 block-empty (PendingName l) element.DataBlock = tt
 block-empty PendingBang element.DataBlock = tt
 block-empty PendingBangDash element.DataBlock = tt
+block-empty (PendingOpening letters) element.DataBlock = tt
 block-empty Nothing _ = tt
 block-empty LessAtCut _ = tt
 block-empty PendingLess _ = tt
 block-empty (PendingName l) _ = tt
 block-empty PendingBang _ = tt
 block-empty PendingBangDash _ = tt
+block-empty (PendingOpening letters) _ = tt
 
 one-css : (p q : Css) → body.Css p ≡ body.Css q → q ≡ p
 one-css p q e = cc
@@ -135,6 +139,7 @@ element-empty (PendingName l) (Some n) = tt
 element-empty LessAtCut (Some n) = tt
 element-empty PendingBang (Some n) = tt
 element-empty PendingBangDash (Some n) = tt
+element-empty (PendingOpening letters) (Some n) = tt
 element-empty h None = tt
 
 language-empty : (h : Pending) (e : Element) (v : ValueState) → WhereScanned (language_scanned h e v) IsEmptyBefore
@@ -142,6 +147,10 @@ language-empty h element.Style (OfStyle s) = element-empty h (style_scanned s)
 language-empty h element.Style (OfKind k) = tt
 language-empty h element.Style (OfUrl u) = tt
 language-empty h element.Style (OfScript v) = tt
+language-empty h element.Script (OfScript v) = where-script-element h v IsEmptyBefore (λ j e i. tt) (λ n i. tt)
+language-empty h element.Script (OfKind k) = tt
+language-empty h element.Script (OfUrl u) = tt
+language-empty h element.Script (OfStyle s) = tt
 language-empty h _ v = tt
 
 own-empty : (s : LexState ValueState) → WhereScanned (scanned s) IsEmptyBefore
@@ -167,7 +176,6 @@ own-empty (SelfClosingStartTag t) = tt
 own-empty (InContent e (Characters r) p) = content-empty p e
 own-empty (InContent e Bytes p) = block-empty p e
 own-empty (InContent e (InLanguage v) p) = language-empty p e v
-own-empty Unread = tt
 
 pub own-unbegun : (v : ValuePlace) (p : Css) → IsOwn (At (place.Value v)) → has_begun v.quotes ≡ false → v.body ≡ body.Css p → p ≡ empty_css
 own-unbegun v p h n e = subst (λ (o : Option Scan). WhereScanned o IsEmptyBefore) h.1 (own-empty h.0) p n e

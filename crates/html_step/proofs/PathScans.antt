@@ -8,14 +8,14 @@ use Rattle.js_lexer.specs.States.{ScriptState}
 use Rattle.js_step.specs.ScriptScans.{ScriptScan}
 use Rattle.place_core.specs.page.Classes.{Class, class_of, is_equals_sign}
 use Rattle.place_core.specs.place.LastLexeme.{language_reference}
-use Rattle.place_core.specs.place.Errors.{byte_error, cut_error, at_hand, deep_behind, fed_behind, flushed_error, unless_second, content_error, PathCause, pending_error, place_before_bytes, lexeme_error, script_byte_refusal, script_cut_refusal}
+use Rattle.place_core.specs.place.Errors.{byte_error, cut_error, at_hand, deep_behind, fed_behind, flushed_error, unless_second, PathCause, pending_error, place_before_bytes, lexeme_error, read_error, script_byte_refusal, script_cut_refusal}
 use Rattle.place_core.specs.page.Contents.{pending_bytes}
 use Rattle.place_core.specs.page.Html.{next, after_tag}
 use Rattle.place_core.specs.page.Paths.{at_cut}
 use Rattle.place_core.specs.page.References.{Reference, Closed, Open, Breaks, turn}
-use Rattle.place_core.specs.place.ScriptParts.{script_body}
+use Rattle.place_core.specs.place.ScriptParts.{script_body, script_js}
 use Rattle.place_core.specs.place.StatePlaces.{tag_spot, only_name, only_before, only_inside, only_after, value_spot, value_body, quotes_at, unbegun, placed}
-use Rattle.place_core.specs.page.States.{Template, LexState, Text, TagOpen, EndTagOpen, DeclarationOpen, InComment, BogusComment, InDoctype, TagName, WholeTagName, BeforeAttributeName, AttributeName, WholeAttributeName, AfterAttributeName, BeforeAttributeValue, AttributeValue, AfterAttributeValue, SelfClosingStartTag, Characters, Bytes, InLanguage, Pending, Nothing, PendingLess, PendingName, PendingBang, PendingBangDash, InContent, Unread, LessAtCut}
+use Rattle.place_core.specs.page.States.{Template, LexState, Text, TagOpen, EndTagOpen, DeclarationOpen, InComment, BogusComment, InDoctype, TagName, WholeTagName, BeforeAttributeName, AttributeName, WholeAttributeName, AfterAttributeName, BeforeAttributeValue, AttributeValue, AfterAttributeValue, SelfClosingStartTag, Characters, Bytes, InLanguage, Pending, Nothing, PendingLess, PendingName, PendingBang, PendingBangDash, PendingOpening, InContent, LessAtCut}
 use Rattle.place_core.specs.page.Tags.{Tag, Value, ValueOf, Deciding, ValueState, OfKind, OfUrl, OfStyle, OfScript, languages, feed_value, feeding, feed_bytes, attribute_value_of, tag_by_type, with_bytes, tag_with_value, without_value, Quoting, is_second_type}
 use Rattle.place_core.specs.place.UrlParts.{parts_of}
 use Rattle.place_core.specs.declared.body.Body.{Body}
@@ -23,6 +23,7 @@ use Rattle.place_core.specs.declared.body.Body.TheVariants as body
 use Rattle.place_core.specs.declared.code.Code.{Code}
 use Rattle.place_core.specs.declared.element.Element.{Element}
 use Rattle.place_core.specs.declared.element.Element.TheVariants as element
+use Rattle.place_core.specs.declared.js.Js.{Js}
 use Rattle.place_core.specs.declared.kind.Kind.{Kind}
 use Rattle.place_core.specs.declared.kind.Kind.TheVariants as kind
 use Rattle.place_core.specs.declared.parts.Parts.{Parts}
@@ -31,7 +32,7 @@ use Rattle.place_core.specs.declared.quotes.Quotes.{Quotes}
 use Rattle.place_core.specs.declared.tag_of.TagOf.{TagOf}
 use Rattle.place_core.specs.declared.tag_of.TagOf.TheVariants as tag
 use Rattle.place_core.specs.declared.value_place.ValuePlace.{ValuePlace}
-use Rattle.html_scan.specs.Scans.{Scan, At, AfterLess, AfterLessSolidus, InDeclaration, InTagName, InAttributeName, InContentEnd, InScript, InStyleElement, comment_scan, element_scan, content_scan, pending_left, typed_with, scan_next, scan_error, scan_place, scan_cut_error, BeforeType, InType, scan_shown, url_scan, scan_lexeme_error, scan_deep_behind, scan_fed_behind, scan_reference, scan_script_cut_refusal, scan_script_refusal, script_feeding, style_feeding, style_scan, written_error}
+use Rattle.html_scan.specs.Scans.{Scan, At, AfterLess, AfterLessSolidus, InDeclaration, InTagName, InAttributeName, InContentEnd, InScript, InScriptElement, InStyleElement, all_element_scripts, comment_scan, element_scan, content_scan, pending_left, typed_with, scan_next, scan_error, scan_place, scan_cut_error, BeforeType, InType, scan_shown, url_scan, scan_lexeme_error, scan_deep_behind, scan_fed_behind, scan_reference, scan_script_cut_refusal, scan_script_refusal, script_feeding, style_feeding, style_scan, written_error}
 use Rattle.html_step.proofs.ScriptPaths.{kept_script_scanned, script_value}
 use Rattle.html_step.proofs.StylePaths.{HasValue, StandsHere, style_value}
 use Rattle.url_lexer.specs.States.{Url, feed_url, feed_all}
@@ -66,8 +67,26 @@ abbrev pub style_element_scanned : Pending → Option StyleScan → Option Scan
 style_element_scanned h (Some n) = element_scanned h n
 style_element_scanned h None = None
 
+-- In the element `script` it has the scan state of the script; but where a text begins it is at the place.
+abbrev pub script_element_there : Pending → Option ScriptScan → Option Scan
+script_element_there h o = option_map (λ n. InScriptElement n h) o
+
+abbrev pub script_element_unless_placed : Option Js → Option ScriptScan → Option Scan
+script_element_unless_placed (Some j) o = Some (At (place.Script j))
+script_element_unless_placed None o = script_element_there Nothing o
+
+abbrev pub script_element_scanned : Pending → ScriptState → Option Scan
+script_element_scanned Nothing s = script_element_unless_placed (script_js s) (kept_script_scanned s)
+script_element_scanned PendingLess s = script_element_there PendingLess (kept_script_scanned s)
+script_element_scanned LessAtCut s = None
+script_element_scanned (PendingName letters) s = script_element_there (PendingName letters) (kept_script_scanned s)
+script_element_scanned PendingBang s = script_element_there PendingBang (kept_script_scanned s)
+script_element_scanned PendingBangDash s = script_element_there PendingBangDash (kept_script_scanned s)
+script_element_scanned (PendingOpening letters) s = script_element_there (PendingOpening letters) (kept_script_scanned s)
+
 abbrev pub language_scanned : Pending → Element → ValueState → Option Scan
 language_scanned h element.Style (OfStyle s) = style_element_scanned h (style_scanned s)
+language_scanned h element.Script (OfScript s) = script_element_scanned h s
 language_scanned h e v = None
 
 -- where a second `type` is not refused
@@ -131,7 +150,6 @@ scanned (SelfClosingStartTag t) = Some (At (place.Tag (tag_spot t only_before No
 scanned (InContent e (Characters r) h) = content_scanned h e
 scanned (InContent e Bytes h) = block_scanned h e
 scanned (InContent e (InLanguage v) h) = language_scanned h e v
-scanned Unread = None
 
 -- Of the bytes of a script the places are kept; where a value is at a place, no byte of it has been read.
 abbrev pub FitsValue : List ℕ → Value ValueState → Reference → Type 0
@@ -221,7 +239,8 @@ IsScriptShown n (Open f bytes) (b ∷ bs) =
 
 -- In the element, that nothing is refused of what is pending back and comes to nothing there.
 abbrev pub IsShown : Scan → List ℕ → Type 0
-IsShown (InStyleElement n h) bs = pending_error style_feeding n (pending_bytes (pending_left h bs)) ≡ None
+IsShown (InStyleElement n h) bs = pending_error style_feeding n (pending_bytes (pending_left element.Style h bs)) ≡ None
+IsShown (InScriptElement n h) bs = read_error all_element_scripts n (pending_bytes (pending_left element.Script h bs)) 1 ≡ None
 IsShown (InScript v n r) bs = IsScriptShown n r bs
 IsShown f bs = (scan_reference f ≡ Closed) ⊎ StandsHere (refused_next f bs)
 
@@ -237,8 +256,14 @@ abbrev pub value_reference : LexState ValueState → Reference
 value_reference (AttributeValue q t v r) = r
 value_reference s = Closed
 
+-- In the element `script` no `<` is pending from before the text.
+abbrev pub NoPendingCut : Pending → Type 0
+NoPendingCut LessAtCut = ⊥
+NoPendingCut h = Unit {0}
+
 abbrev pub ScriptFacts : LexState ValueState → Scan → Type 0
 ScriptFacts s (InScript v n r) = HasValue v.quotes × (value_reference s ≡ r)
+ScriptFacts s (InScriptElement n h) = NoPendingCut h
 ScriptFacts s f = Unit {0}
 
 -- the end of a text, the reference that is open there, and the place that is shown before the bytes that are left
@@ -252,11 +277,11 @@ pub record Ends (s : LexState ValueState) (f : Scan) : Type 0 where
   pub shown : (bs : List ℕ) → IsShown f bs → place_before_bytes s bs ≡ scan_shown f bs
 
 -- the end of a tag
-pub tag-ends : (t : TagOf) → content_error t ≡ None → scanned (after_tag languages t) ≡ Some (content_scan t)
-tag-ends tag.End n = refl
-tag-ends (tag.Start element.Other) n = refl
-tag-ends (tag.Start element.Title) n = refl
-tag-ends (tag.Start element.Textarea) n = refl
-tag-ends (tag.Start element.Style) n = refl
-tag-ends (tag.Start element.Script) n = absurd (some _ n)
-tag-ends (tag.Start element.DataBlock) n = refl
+pub tag-ends : (t : TagOf) → scanned (after_tag languages t) ≡ Some (content_scan t)
+tag-ends tag.End = refl
+tag-ends (tag.Start element.Other) = refl
+tag-ends (tag.Start element.Title) = refl
+tag-ends (tag.Start element.Textarea) = refl
+tag-ends (tag.Start element.Style) = refl
+tag-ends (tag.Start element.Script) = refl
+tag-ends (tag.Start element.DataBlock) = refl

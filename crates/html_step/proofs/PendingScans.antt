@@ -5,7 +5,7 @@ use Rattle.css_step.specs.StyleScans.{StyleScan, is_style_start, style_scan_plac
 use Rattle.place_core.specs.page.Classes.{Class, White, QuotationMark, Apostrophe, Solidus, LessThan, GreaterThan, Letter, class_of, is_equals_sign}
 use Rattle.place_core.specs.page.Contents.{is_name_of, may_be_name_of}
 use Rattle.place_core.specs.page.References.{Form, Reference, Closed, Open, ReferenceStep, Grows, Closes, Breaks, flushed, next_reference, turn, undone_byte}
-use Rattle.place_core.specs.page.States.{Pending, Nothing, PendingLess, LessAtCut, PendingName, PendingBang, PendingBangDash}
+use Rattle.place_core.specs.page.States.{Pending, Nothing, PendingLess, LessAtCut, PendingName, PendingBang, PendingBangDash, PendingOpening}
 use Rattle.place_core.specs.page.Tags.{feed_bytes}
 use Rattle.place_core.specs.declared.body.Body.{Body}
 use Rattle.place_core.specs.declared.body.Body.TheVariants as body
@@ -17,7 +17,7 @@ use Rattle.place_core.specs.declared.quotes.Quotes.TheVariants as quotes
 use Rattle.place_core.specs.declared.tag_of.TagOf.{TagOf}
 use Rattle.place_core.specs.declared.tag_of.TagOf.TheVariants as tag
 use Rattle.place_core.specs.declared.value_place.ValuePlace.{ValuePlace}
-use Rattle.html_scan.specs.Scans.{Scan, At, AfterLess, AfterLessSolidus, InDeclaration, InTagName, InAttributeName, InUrl, InStyle, InStyleElement, InCommentEnd, InContentEnd, BeforeType, InType, bare_begun, bare_white, content_scan, element_next, element_pending_next, empty_style_between, parts_feeding, quotes_lead, scan_reference, style_fed, style_feeding, style_scan, style_value_next, triple_behind, url_scan, value_between, value_fed, value_next, with_parts, with_style, InScript}
+use Rattle.html_scan.specs.Scans.{Scan, At, AfterLess, AfterLessSolidus, InDeclaration, InTagName, InAttributeName, InUrl, InStyle, InStyleElement, InCommentEnd, InContentEnd, BeforeType, InType, bare_begun, bare_white, content_scan, element_next, element_pending_next, empty_style_between, parts_feeding, quotes_lead, scan_reference, style_fed, style_feeding, style_scan, style_value_next, triple_behind, url_scan, value_between, value_fed, value_next, with_parts, with_style, InScript, InScriptElement}
 use Rattle.html_step.specs.Origins.{element_fed, end_name_fed, less_fed, loose_fed}
 use Rattle.html_step.proofs.ApartParts.{AriseIn, arise-in, several-apart}
 use Rattle.html_step.proofs.Characters.{less-no-letter}
@@ -47,6 +47,8 @@ below-pending (InStyle u n r) _ l = refl
 below-pending (InScript u n r) (InStyleElement m k) l = absurd l
 below-pending (InScript u n r) _ l = refl
 below-pending (InAttributeName t x n) (InStyleElement m k) l = absurd l
+below-pending (InScriptElement n x) (InScriptElement m y) l = refl
+below-pending (InScriptElement n x) _ l = absurd l
 below-pending (InAttributeName t x n) _ l = refl
 below-pending AfterLess f l = ap scan_pending l
 below-pending AfterLessSolidus f l = ap scan_pending l
@@ -88,6 +90,7 @@ fed-by (PendingName letters) c b =
     inr (name-by (may_be_name_of element.Style (letters ++ b ∷ [])) (is_name_of element.Style letters) c b letters)
 fed-by PendingBang c b = inr (fed_less (33 ∷ loose_fed c b) refl)
 fed-by PendingBangDash c b = inr (fed_less (33 ∷ 45 ∷ loose_fed c b) refl)
+fed-by (PendingOpening letters) c b = inr (fed_less (letters ++ loose_fed c b) refl)
 
 -- so no paths come apart
 less-apart : (bytes : List ℕ) (s : Parts) → FedLess bytes → spells_apart s.opened ≡ false

@@ -12,7 +12,7 @@ use Rattle.css_step.specs.StyleSetLaws.{StyleScanBelow, below_bare, below_quoted
 use Rattle.place_core.specs.page.Classes.{Class, class_of, is_equals_sign}
 use Rattle.place_core.specs.page.References.{Form, Reference, Closed, Open, ReferenceStep, Grows, Closes, Breaks, flushed, turn}
 use Rattle.place_core.specs.page.Contents.{pending_bytes}
-use Rattle.place_core.specs.page.States.{LexState, AttributeValue, InContent, InLanguage, Pending, Nothing, PendingLess, LessAtCut, PendingName, PendingBang, PendingBangDash}
+use Rattle.place_core.specs.page.States.{LexState, AttributeValue, InContent, InLanguage, Pending, Nothing, PendingLess, LessAtCut, PendingName, PendingBang, PendingBangDash, PendingOpening}
 use Rattle.place_core.specs.page.Tags.{Deciding, OfKind, OfUrl, OfStyle, OfScript, Tag, ValueOf, ValueState, languages, feed_bytes, with_bytes, Quoting, DoubleQuoted, SingleQuoted, Unquoted}
 use Rattle.place_core.specs.place.ApartPlaces.{beginning_at, beginning_in_css}
 use Rattle.place_core.specs.place.Errors.{flushed_error, is_written, pending_error, place_before_bytes}
@@ -33,7 +33,7 @@ use Rattle.place_core.specs.declared.place.Place.TheVariants as place
 use Rattle.place_core.specs.declared.quotes.Quotes.{Quotes}
 use Rattle.place_core.specs.declared.value_place.ValuePlace.{ValuePlace}
 use Rattle.place_core.proofs.Semilattices.{none_some, one_value}
-use Rattle.html_scan.specs.Scans.{Scan, At, InScript, InUrl, InStyle, InStyleElement, element_scan, pending_left, parts_before, parts_feeding, parts_with, scan_shown, style_before, style_feeding, style_scan, triple_behind, url_scan, with_body, with_style, scan_reference}
+use Rattle.html_scan.specs.Scans.{Scan, At, InScript, InUrl, InStyle, InScriptElement, InStyleElement, element_scan, pending_left, parts_before, parts_feeding, parts_with, scan_shown, style_before, style_feeding, style_scan, triple_behind, url_scan, with_body, with_style, scan_reference}
 use Rattle.html_step.specs.Origins.{body_parts, is_apart, scan_parts}
 use Rattle.html_step.proofs.ApartParts.{unknown-below}
 use Rattle.html_step.proofs.FromValues.{nothing-fed}
@@ -164,6 +164,7 @@ element-form (PendingName letters) n g h = record { same = one_value (InStyleEle
 element-form LessAtCut n g h = absurd (none_some g h)
 element-form PendingBang n g h = absurd (none_some g h)
 element-form PendingBangDash n g h = absurd (none_some g h)
+element-form (PendingOpening letters) n g h = absurd (none_some g h)
 
 pub element-at-closed : (x : Pending) (n : StyleScan) → scan_reference (element_at x n) ≡ Closed
 element-at-closed Nothing n = element-closed-by n (is_style_start n)
@@ -172,6 +173,7 @@ element-at-closed LessAtCut n = refl
 element-at-closed (PendingName letters) n = refl
 element-at-closed PendingBang n = refl
 element-at-closed PendingBangDash n = refl
+element-at-closed (PendingOpening letters) n = refl
 
 pub element-at-parts : (x : Pending) (n : StyleScan) → scan_parts (element_at x n) ≡ style_scan_parts n
 element-at-parts Nothing n = element-parts-by n (is_style_start n) refl
@@ -180,6 +182,7 @@ element-at-parts LessAtCut n = refl
 element-at-parts (PendingName letters) n = refl
 element-at-parts PendingBang n = refl
 element-at-parts PendingBangDash n = refl
+element-at-parts (PendingOpening letters) n = refl
 
 element-closed : (e : Element) (v : Style Url) (x : Pending) (g : Scan) → scanned (InContent e (InLanguage (OfStyle v)) x) ≡ Some g → scan_reference g ≡ Closed
 element-closed e v x g h =
@@ -265,7 +268,7 @@ read-between s g bs (element_state y v x i) e h = ap (λ (z : LexState ValueStat
 
 -- Nothing is pending there that comes to nothing at the next byte.
 abbrev pub NonePending : Scan → List ℕ → Type 0
-NonePending (InStyleElement n x) bs = pending_left x bs ≡ Nothing
+NonePending (InStyleElement n x) bs = pending_left element.Style x bs ≡ Nothing
 NonePending f bs = Unit {0}
 
 -- the place that is shown there spells what the scan state does
@@ -299,7 +302,7 @@ shown-closed (InStyle v n Closed) bs s h k p = record { place = with_style v n; 
 shown-closed (InStyle v n (Open f bytes)) bs s h k p = absurd (not-open f bytes k)
 shown-closed (At (place.Style c)) bs s h k p = record { place = place.Style c; is = refl; opened = css-opened c s h }
 shown-closed (InStyleElement n x) bs s h k p = record {
-  place = place.Style (style_scan_place (feed_bytes style_feeding n (pending_bytes (pending_left x bs))));
+  place = place.Style (style_scan_place (feed_bytes style_feeding n (pending_bytes (pending_left element.Style x bs))));
   is = refl;
   opened = ap (λ (y : Pending). beginning_in_css (style_scan_place (feed_bytes style_feeding n (pending_bytes y)))) p ∙ scan-opened n s h;
 }
@@ -404,6 +407,7 @@ own-style q t v n (Open f bytes) (b ∷ bs) i k h =
 none-shown : (g : Scan) (bs : List ℕ) → IsNoScriptScan g → scan_reference g ≡ Closed → NonePending g bs → IsShown g bs
 none-shown (InStyleElement n x) bs i e p = ap (λ (y : Pending). pending_error style_feeding n (pending_bytes y)) p
 none-shown (InScript v n r) bs i e p = absurd i
+none-shown (InScriptElement n x) bs i e p = absurd i
 none-shown g bs i e p = inl e
 
 no-script-by : (x : Bool) (n : StyleScan) → IsNoScriptScan (if x then At (place.Style (style_scan_place n)) else InStyleElement n Nothing)
@@ -417,6 +421,7 @@ element-no-script-at LessAtCut n = tt
 element-no-script-at (PendingName letters) n = tt
 element-no-script-at PendingBang n = tt
 element-no-script-at PendingBangDash n = tt
+element-no-script-at (PendingOpening letters) n = tt
 
 element-no-script : (e : Element) (v : Style Url) (x : Pending) (g : Scan) → scanned (InContent e (InLanguage (OfStyle v)) x) ≡ Some g → IsNoScriptScan g
 element-no-script e v x g h =
@@ -451,6 +456,7 @@ element-name (PendingName letters) n g h w = (subst ScanValid (sym (one_value (I
 element-name LessAtCut n g h w = tt
 element-name PendingBang n g h w = tt
 element-name PendingBangDash n g h w = tt
+element-name (PendingOpening letters) n g h w = absurd (none_some g h)
 
 pub opens-of : (s : LexState ValueState) (g : Scan) → UrlState s → scanned s ≡ Some g → ScanValid g → ReferenceOpensNone (scan_reference g) → OpensNone s
 opens-of s g (url_state q t u r i) e w h =
@@ -691,6 +697,7 @@ element-below-as LessAtCut n a d s f i h p l = in-element-as LessAtCut n a d s f
 element-below-as (PendingName letters) n a d s f i h p l = in-element-as (PendingName letters) n a d s f i h p l
 element-below-as PendingBang n a d s f i h p l = in-element-as PendingBang n a d s f i h p l
 element-below-as PendingBangDash n a d s f i h p l = in-element-as PendingBangDash n a d s f i h p l
+element-below-as (PendingOpening letters) n a d s f i h p l = in-element-as (PendingOpening letters) n a d s f i h p l
 
 element-valid-by : (y : Bool) (n : StyleScan) → IsValidCss (style_scan_place n) → ScanValid (if_element n y)
 element-valid-by true n v = v
@@ -703,6 +710,7 @@ element-at-valid LessAtCut n v w = (v, w)
 element-at-valid (PendingName letters) n v w = (v, w)
 element-at-valid PendingBang n v w = (v, w)
 element-at-valid PendingBangDash n v w = (v, w)
+element-at-valid (PendingOpening letters) n v w = (v, w)
 
 record UnknownElement (x : Pending) (m : StyleScan) (f : Scan) : Type 0 where
   at : element_scanned x m ≡ Some (element_at x m)
@@ -804,6 +812,10 @@ unknown (InContent element.Style (InLanguage (OfStyle (Out v))) x) g f p o e w h
 unknown (InContent element.Style (InLanguage (OfKind k)) x) g f p o e w h a l = absurd (no o)
 unknown (InContent element.Style (InLanguage (OfScript v)) x) g f p o e w h a l = absurd (no o)
 unknown (InContent element.Style (InLanguage (OfUrl u)) x) g f p o e w h a l = absurd (no o)
+unknown (InContent element.Script (InLanguage (OfScript v)) x) g f p o e w h a l = absurd (no o)
+unknown (InContent element.Script (InLanguage (OfKind k)) x) g f p o e w h a l = absurd (none_some g e)
+unknown (InContent element.Script (InLanguage (OfUrl u)) x) g f p o e w h a l = absurd (none_some g e)
+unknown (InContent element.Script (InLanguage (OfStyle k)) x) g f p o e w h a l = absurd (none_some g e)
 unknown (InContent _ (InLanguage v) x) g f p o e w h a l = absurd (none_some g e)
 unknown _ g f p o e w h a l = absurd (no o)
 
@@ -851,5 +863,9 @@ open-parts (InContent element.Style (InLanguage (OfStyle (Out v))) x) g o e = ab
 open-parts (InContent element.Style (InLanguage (OfKind k)) x) g o e = absurd (no o)
 open-parts (InContent element.Style (InLanguage (OfScript v)) x) g o e = absurd (no o)
 open-parts (InContent element.Style (InLanguage (OfUrl u)) x) g o e = absurd (no o)
+open-parts (InContent element.Script (InLanguage (OfScript v)) x) g o e = absurd (no o)
+open-parts (InContent element.Script (InLanguage (OfKind k)) x) g o e = absurd (none_some g e)
+open-parts (InContent element.Script (InLanguage (OfUrl u)) x) g o e = absurd (none_some g e)
+open-parts (InContent element.Script (InLanguage (OfStyle k)) x) g o e = absurd (none_some g e)
 open-parts (InContent _ (InLanguage v) x) g o e = absurd (none_some g e)
 open-parts _ g o e = absurd (no o)

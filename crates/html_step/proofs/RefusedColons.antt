@@ -148,7 +148,7 @@ kept-apart k b bs f r w n d a =
       code = d.code;
       within = omega (arith, long, there);
       refuses = λ j m i at is since g v l o.
-          let x = scan-grows g f c b v l n in
+          let x = scan-grows g f c b refl v l n in
           let e = script-takes g c b x.0 (apart-no-script g c o) j since.fed in
           let next : m + (j + 1) ≡ k + 1 = omega (arith, at) in
           let h = d.refuses (j + 1) m i next is (scan_read_behind j since g c b) (scan_next g c b) (scan-valid g c b v x.0) x.1 (next-apart g f c b v w n l x.1 o d.there) in (
@@ -171,12 +171,12 @@ pub record Point (s : LexState ValueState) (bs : List ℕ) (f : Scan) : Type 0 w
   pub between : is_in_reference s bs ≡ false
   pub opened : beginning_at place ≡ Some (placed_prefix spelled)
 
-left-none : (bs : List ℕ) → pending_left Nothing bs ≡ Nothing
+left-none : (bs : List ℕ) → pending_left element.Style Nothing bs ≡ Nothing
 left-none [] = refl
 left-none (b ∷ bs) = refl
 
 pub none-pending : (g : Scan) (bs : List ℕ) → scan_pending g ≡ Nothing → NonePending g bs
-none-pending (InStyleElement n x) bs m = ap (λ (y : Pending). pending_left y bs) m ∙ left-none bs
+none-pending (InStyleElement n x) bs m = ap (λ (y : Pending). pending_left element.Style y bs) m ∙ left-none bs
 none-pending _ bs m = tt
 
 point : (s : LexState ValueState) (g : Scan) (bs : List ℕ) (f : Scan) (p : spelling.Prefix) → UrlState s → scanned s ≡ Some g → ReadTaken g bs
@@ -293,6 +293,10 @@ start-language element.Style (OfStyle (Out v)) h g a e = absurd a
 start-language element.Style (OfKind k) h g a e = absurd a
 start-language element.Style (OfScript k) h g a e = absurd a
 start-language element.Style (OfUrl u) h g a e = absurd a
+start-language element.Script (OfKind k) h g a e = absurd a
+start-language element.Script (OfScript k) h g a e = absurd a
+start-language element.Script (OfUrl u) h g a e = absurd a
+start-language element.Script (OfStyle s) h g a e = absurd (none_some g e)
 start-language _ v h g a e = absurd (none_some g e)
 
 pub start-parts : (s : LexState ValueState) (g : Scan) → StartsUrl s → scanned s ≡ Some g → scan_parts g ≡ Some (parts_of UrlStart)
@@ -622,7 +626,7 @@ behind-point : (v : LexState ValueState) (g f : Scan) (b : ℕ) (bs : List ℕ) 
 unfolding point
 behind-point v g f b bs x p vg vf l e n held settled apart i j =
     let c = class_of b in
-    let m = scan-grows g f c b vg l n in
+    let m = scan-grows g f c b refl vg l n in
     let a = agrees-at v g b e in
     let at = a.steps m.0 in
     let ro = read-on g b bs vg m.0 in
@@ -703,8 +707,8 @@ two-next k b bs f r s y w i n j notyet d =
           let ag = agrees-at v g b m.at in
           let ah = agrees-at t h b u.at in
           inl (
-            ag.errors ∙ (scan-grows g f c b m.valid m.below n).0,
-            ah.errors ∙ (scan-grows h f c b u.valid u.below n).0,
+            ag.errors ∙ (scan-grows g f c b refl m.valid m.below n).0,
+            ah.errors ∙ (scan-grows h f c b refl u.valid u.below n).0,
             inl (apart-now bs (k + 1) at.0 (scan_next f c b) r (next languages Template v c b) (next languages Template t c b) d at.1 one.0 two.0 differ),
           );
     }

@@ -1,10 +1,10 @@
 -- Scan states that are below one another, their validity and their members; a step keeps the order.
-use Rattle.std.proofs.Common.{◌≡◌, ℕ, Bool, true, false, ◌||◌, ◌&&◌, List, [], ◌∷◌, ◌++◌, codes, length, Option, Some, None, option_map, if◌then◌else◌, refl, sym, ap, ◌∙◌, subst}
+use Rattle.std.proofs.Common.{◌≡◌, ℕ, Bool, true, false, ◌||◌, ◌&&◌, List, [], ◌∷◌, ◌++◌, codes, length, Option, Some, None, option_map, if◌then◌else◌, inl, inr, refl, sym, ap, ◌∙◌, subst}
 use Rattle.std.specs.Option.{is_some}
-use Rattle.place_core.specs.page.Classes.{Class, White, ExclamationMark, QuotationMark, Apostrophe, HyphenMinus, Solidus, LessThan, EqualsSign, GreaterThan, GraveAccent, Letter}
-use Rattle.place_core.specs.page.Contents.{is_name_of, may_be_name_of, pending_bytes}
-use Rattle.place_core.specs.page.States.{Pending, Nothing, PendingLess, LessAtCut, PendingName, PendingBang, PendingBangDash}
-use Rattle.place_core.specs.place.Errors.{PathCause, at_hand, attribute_name_error, bare_error, body_error, comment_error, content_error, equals_error, first_cause, first_error, quotes_error, language_error, tag_error, unless_second, value_error, block_error, cut_cause, end_name_error, less_error, loose_byte_error, pending_error, released_error, split_error}
+use Rattle.place_core.specs.page.Classes.{Class, White, ExclamationMark, QuotationMark, Apostrophe, HyphenMinus, Solidus, LessThan, EqualsSign, GreaterThan, GraveAccent, Letter, class_of}
+use Rattle.place_core.specs.page.Contents.{ScriptStep, Reads, EndsContent, is_name_of, may_be_name_of, pending_bytes}
+use Rattle.place_core.specs.page.States.{Pending, Nothing, PendingLess, LessAtCut, PendingName, PendingBang, PendingBangDash, PendingOpening}
+use Rattle.place_core.specs.place.Errors.{PathCause, at_hand, attribute_name_error, bare_error, body_error, comment_error, equals_error, first_cause, first_error, quotes_error, language_error, tag_error, unless_second, value_error, block_error, cut_cause, end_name_error, less_error, loose_byte_error, pending_error, released_error, script_content_error, split_error, step_error}
 use Rattle.place_core.specs.place.Places.{Below, Has, IsValid, IsValidBody, IsValidQuotes, IsValidTag, both_bare, is_whole, joined_kinds, joined_quotes, joined_bodies, quotes_have, some_bare, typed_has}
 use Rattle.place_core.specs.place.StatePlaces.{only_after, only_before, only_inside, unbegun}
 use Rattle.place_core.specs.page.Words.{kind_of}
@@ -32,9 +32,13 @@ use Rattle.place_core.specs.declared.value_place.ValuePlace.{ValuePlace}
 use Rattle.place_core.proofs.JoinParts.{kinds_partial}
 use Rattle.place_core.proofs.Joins.{places_same}
 use Rattle.place_core.proofs.Semilattices.{no_map, none_some, one_value, row_value}
-use Rattle.html_scan.specs.Scans.{Scan, At, AfterLess, AfterLessSolidus, InDeclaration, InTagName, InAttributeName, InUrl, InStyle, InScript, InStyleElement, InCommentEnd, InContentEnd, element_cause, element_less_next, element_name_next, element_next, element_pending_next, element_scan, released_next, style_less_cause, style_less_cut, after_white, bare_begun, attribute_name_next, bare_white, comment_next, comment_state, content_scan, scan_next, scan_error, scan_place, scan_cut_error, scan_lexeme_error, in_tag, tag_next, typed_with, value_scan, with_quotes, BeforeType, InType, rest_place, content_next, parts_feeding, triple_behind, url_scan, with_parts, value_fed, value_next, quoted_error, body_cause, value_cause, place_cause, parts_with, with_body, open_cut_error, bare_leads, empty_style_between, quotes_lead, style_cause, style_fed, style_feeding, style_scan, style_value_next, value_between, with_style, empty_script_between, script_cause, script_fed_next, script_feeding, script_value_next, with_script}
+use Rattle.html_scan.specs.Scans.{Scan, At, AfterLess, AfterLessSolidus, InDeclaration, InTagName, InAttributeName, InUrl, InStyle, InScript, InScriptElement, InStyleElement, InCommentEnd, InContentEnd, element_cause, element_less_next, element_name_next, element_next, element_pending_next, element_scan, released_next, style_less_cause, style_less_cut, after_white, bare_begun, attribute_name_next, bare_white, comment_next, comment_state, content_scan, scan_next, scan_error, scan_place, scan_cut_error, scan_lexeme_error, in_tag, tag_next, typed_with, value_scan, with_quotes, BeforeType, InType, rest_place, content_next, parts_feeding, triple_behind, url_scan, with_parts, value_fed, value_next, quoted_error, body_cause, value_cause, place_cause, parts_with, with_body, open_cut_error, bare_leads, empty_style_between, quotes_lead, style_cause, style_fed, style_feeding, style_scan, style_value_next, value_between, with_style, script_cause, script_fed_next, script_feeding, script_value_next, with_script, all_element_scripts, behind_end_name, scan_by_step, script_element_next, script_scan_step}
 use Rattle.html_step.proofs.ContentsAlike.{content-beside, released-beside}
 use Rattle.html_step.proofs.ElementsBelow.{ElementUnder, under-element}
+use Rattle.html_step.proofs.JsPlaces.{js-below-place, js-place-below}
+use Rattle.html_step.proofs.ScriptContents.{asked}
+use Rattle.html_step.proofs.ScriptElementOrder.{DoesAlike, DoesBehind, element-cut-below, element-fed-below, element-taken-below, same-step, step-alike-behind}
+use Rattle.html_step.proofs.ScriptModes.{TakesLess}
 use Rattle.html_step.proofs.PathScans.{none-at-hand, none-unless, some}
 use Rattle.html_step.proofs.PlaceParts.{Under, under-false, under-same, under-both, TagBelow, ValueBelow, below-tag, tag-below, below-value, value-below, below-rcdata, same-kinds}
 use Rattle.html_step.proofs.FedAlike.{BegunIf, FedBeside, GoesOn, bare-beside, bare-undone, fed-beside, first-caused, language-beside, undone-beside}
@@ -43,7 +47,7 @@ use Rattle.html_step.proofs.ScriptPaths.{empty_js}
 use Rattle.js_step.specs.ScriptOrigins.{script_set_has}
 use Rattle.js_lexer.specs.Refusals.{Cause}
 use Rattle.js_step.specs.ScriptSetLaws.{ScriptBelow}
-use Rattle.js_step.specs.ScriptScans.{ScriptScan, script_scan_cut_error, script_scan_end_error, script_scan_place, script_scan_start}
+use Rattle.js_step.specs.ScriptScans.{ScriptScan, script_scan_cut_error, script_scan_place, script_scan_start}
 use Rattle.js_step.specs.ScriptValidity.{IsScriptScan}
 use Rattle.html_step.proofs.StyleOrder.{below-css, css-below, scan-below-start, scan-of-start, starts-below, styles-beside}
 use Rattle.html_step.proofs.StylePaths.{empty_css, style_unfinished}
@@ -106,6 +110,8 @@ ScanBelow (InStyle v s r) g = StyleUnder v s r g
 ScanBelow (InScript v n r) (InScript w m z) = ScriptValueBelow v w n m × (r ≡ z)
 ScanBelow (InScript v n r) g = ⊥
 ScanBelow (InStyleElement s h) g = ElementUnder s h g
+ScanBelow (InScriptElement n h) (InScriptElement m k) = ScriptUnder n m × (h ≡ k) × DoesAlike n m k
+ScanBelow (InScriptElement n h) g = ⊥
 ScanBelow AfterLess g = AfterLess ≡ g
 ScanBelow AfterLessSolidus g = AfterLessSolidus ≡ g
 ScanBelow (InDeclaration pending) g = InDeclaration pending ≡ g
@@ -132,6 +138,7 @@ url-within _ v = absurd v
 -- What may be the name in an end tag is a beginning of it.
 abbrev pub IsPendingName : Pending → Type 0
 IsPendingName (PendingName letters) = may_be_name_of element.Style letters ≡ true
+IsPendingName (PendingOpening letters) = ⊥
 IsPendingName h = Unit {0}
 
 -- In a style the scan state has what the body of a place has.
@@ -142,6 +149,7 @@ ScanValid (InStyle v s r) = HasBegun v.quotes × (v.body ≡ body.Css empty_css)
 ScanValid (InScript v n r) = HasBegun v.quotes × (v.body ≡ body.Js empty_js) × IsScriptScan n
 ScanValid (InContentEnd e h) = IsValid (rest_place e)
 ScanValid (InStyleElement s h) = IsValidCss (style_scan_place s) × IsPendingName h
+ScanValid (InScriptElement n h) = IsScriptScan n × TakesLess h n
 ScanValid f = Unit {0}
 
 abbrev pub ScanHas : Scan → Member → Type 0
@@ -151,6 +159,7 @@ ScanHas (InStyle v s r) m = (is_whole m || (typed_has v.typed m || (quotes_have 
 ScanHas (InScript v n r) m = (is_whole m || (typed_has v.typed m || (quotes_have v.quotes m || script_set_has n m))) ≡ true
 ScanHas (InAttributeName t typed name) m = (is_whole m || typed_has typed m) ≡ true
 ScanHas (InStyleElement s h) m = style_scan_has s m ≡ true
+ScanHas (InScriptElement n h) m = (is_whole m || script_set_has n m) ≡ true
 ScanHas f m = is_whole m ≡ true
 
 style-value-same : (v : ValuePlace) (n : StyleScan) → StyleValueBelow v v n n
@@ -172,6 +181,7 @@ scan-same (InTagName ends name) = refl
 scan-same (InCommentEnd s) = refl
 scan-same (InContentEnd e h) = refl
 scan-same (InStyleElement s h) = (below_itself s, refl)
+scan-same (InScriptElement n h) = (under_same refl, refl, inl refl)
 scan-same (BeforeType t) = refl
 scan-same (InType t q v r) = refl
 
@@ -249,7 +259,7 @@ tag-grows x y White b v h n = (
   tag-from x.tag y.tag x.typed y.typed (after_white x.spots) (after_white y.spots) x.kind y.kind h.tag h.typed refl (under-both x.spots.name y.spots.name x.spots.before y.spots.before h.name h.before) refl (under-both x.spots.inside y.spots.inside x.spots.after y.spots.after h.inside h.after) h.kind,
 )
 tag-grows x y Solidus b v h n = (refl, one-spot x.tag y.tag x.typed y.typed only_before None h.tag h.typed)
-tag-grows x y GreaterThan b v h n = (ap content_error h.tag ∙ n, ends-same x.tag y.tag h.tag)
+tag-grows x y GreaterThan b v h n = (refl, ends-same x.tag y.tag h.tag)
 tag-grows x y EqualsSign b v h n =
     let k = has-kind x y v h n in
     (rw (k.name, k.before) refl, begins-with x.tag y.tag x.typed y.typed x.kind y.kind k.kind k.there k.too h.tag h.typed)
@@ -397,10 +407,42 @@ pending-below (PendingName letters) c b n m l e =
     end-name-below (may_be_name_of element.Style (letters ++ b ∷ [])) (is_name_of element.Style letters) c b letters n m l e
 pending-below PendingBang c b n m l e = released-below (codes "<!") c b n m l e
 pending-below PendingBangDash c b n m l e = released-below (codes "<!-") c b n m l e
+pending-below (PendingOpening letters) c b n m l e = released-below (codes "<" ++ letters) c b n m l e
 
 element-grows : (h : Pending) (c : Class) (b : ℕ) (n m : StyleScan) → StyleScanBelow n m → element_cause m h c b ≡ None
     → (element_cause n h c b ≡ None) × ScanBelow (element_pending_next n h c b) (element_pending_next m h c b)
 element-grows h c b n m l e = (content-beside styles-beside element.Style h c b n m l e, pending-below h c b n m l e)
+
+-- The element `script`: a byte.
+pub script-starts : (c d : Js) → IsValid (place.Script c) → Below (place.Script c) (place.Script d) → ScriptUnder (script_scan_start c) (script_scan_start d)
+script-starts c d v h = scripts-in-order c d v (below-js c d (js-below-place c d h))
+
+behind-name-same : (c : Class) → ScanBelow (behind_end_name c) (behind_end_name c)
+behind-name-same White = end-tag-below
+behind-name-same Solidus = end-tag-below
+behind-name-same c = refl
+
+by-step-below : (x : ScriptStep) (c : Class) (n m : ScriptScan) → ScriptUnder n m → DoesBehind x n m → step_error all_element_scripts m x ≡ None
+    → ScanBelow (scan_by_step n x c) (scan_by_step m x c)
+by-step-below (Reads bytes h) c n m l d e =
+    (let a = asked all_element_scripts m bytes h e in (element-fed-below bytes a.back n m l a.read, refl, d))
+by-step-below (EndsContent letters) c n m l d e = behind-name-same c
+
+script-element-grows : (h : Pending) (c : Class) (b : ℕ) (n m : ScriptScan) → class_of b ≡ c → ScriptUnder n m → DoesAlike n m h
+    → script_content_error all_element_scripts element.Script m h c b ≡ None
+    → (script_content_error all_element_scripts element.Script n h c b ≡ None) × ScanBelow (script_element_next n h c b) (script_element_next m h c b)
+script-element-grows h c b n m i l d e = (
+  element-taken-below n m h c b i l d e,
+  subst (λ (x : ScriptStep). ScanBelow (scan_by_step n x c) (script_element_next m h c b)) (sym (same-step n m h c b i l d))
+      (by-step-below (script_scan_step m h c b) c n m l (step-alike-behind h n m c b d e) e),
+)
+
+script-element-by : (n m : ScriptScan) (h k : Pending) (c : Class) (b : ℕ) → class_of b ≡ c → ScriptUnder n m → h ≡ k → DoesAlike n m k
+    → scan_error (InScriptElement m k) c b ≡ None
+    → (scan_error (InScriptElement n h) c b ≡ None) × ScanBelow (scan_next (InScriptElement n h) c b) (scan_next (InScriptElement m k) c b)
+script-element-by n m h k c b i l j d e =
+    subst (λ (z : Pending). (scan_error (InScriptElement n z) c b ≡ None) × ScanBelow (scan_next (InScriptElement n z) c b) (scan_next (InScriptElement m k) c b)) (sym j)
+    (script-element-grows k c b n m i l d e)
 
 -- The two bodies of values behind the bytes that they are fed.
 abbrev FedGoes : Body → Body → List ℕ → Type 0
@@ -547,7 +589,7 @@ bare-grows x y s p Apostrophe f g v h u w n =
     let e : p.uq ≡ false = if-none p.uq code.BadHTML n in
     let d : s.uq ≡ false = under-false s.uq (subst (Under s.uq) e u) in
     (rw d refl, h.kept quotes.Sq refl d)
-bare-grows x y s p GreaterThan f g v h u w n = (ap content_error h.tag ∙ n, ends-same x.tag y.tag h.tag)
+bare-grows x y s p GreaterThan f g v h u w n = (refl, ends-same x.tag y.tag h.tag)
 bare-grows x y s p LessThan f g v h u w n = absurd (some _ n)
 bare-grows x y s p EqualsSign f g v h u w n = absurd (some _ n)
 bare-grows x y s p GraveAccent f g v h u w n = absurd (some _ n)
@@ -693,29 +735,30 @@ one-style-place c d e = cc
 pub style-below-place : (c d : Css) → Below (place.Style c) (place.Style d) → StyleBelow c d
 style-below-place c d h = row_value place.Style one-style-place (joined_css c d) d h
 
-place-grows : (x y : Place) (c : Class) (b : ℕ) → IsValid x → Below x y → place_cause y c b ≡ None → Grows (At x) (At y) c b
-place-grows place.Text place.Text c b v h n = (n, scan-same (scan_next (At place.Text) c b))
-place-grows place.Text y c b v h n = absurd (none_some y h)
-place-grows place.Doctype place.Doctype c b v h n = (n, scan-same (scan_next (At place.Doctype) c b))
-place-grows place.Doctype y c b v h n = absurd (none_some y h)
-place-grows (place.Comment x) (place.Comment y) c b v h n =
+place-grows : (x y : Place) (c : Class) (b : ℕ) → class_of b ≡ c → IsValid x → Below x y → place_cause y c b ≡ None → Grows (At x) (At y) c b
+place-grows place.Text place.Text c b k v h n = (n, scan-same (scan_next (At place.Text) c b))
+place-grows place.Text y c b k v h n = absurd (none_some y h)
+place-grows place.Doctype place.Doctype c b k v h n = (n, scan-same (scan_next (At place.Doctype) c b))
+place-grows place.Doctype y c b k v h n = absurd (none_some y h)
+place-grows (place.Comment x) (place.Comment y) c b k v h n =
     let g = comment-grows x y c (comment-one (x || y) y (one_value (place.Comment (x || y)) (place.Comment y) h)) (none-at-hand (comment_error y c) n) in
     (hand-none (comment_error x c) g.0, g.1)
-place-grows (place.Comment x) y c b v h n = absurd (none_some y h)
-place-grows (place.Rcdata e) (place.Rcdata f) c b v h n = same-grows (At (place.Rcdata e)) (At (place.Rcdata f)) c b (ap (λ (x : Element). At (place.Rcdata x)) (below-rcdata e f h)) n
-place-grows (place.Rcdata e) y c b v h n = absurd (none_some y h)
-place-grows (place.Tag x) (place.Tag y) c b v h n = let g = tag-grows x y c b v (below-tag x y h) (none-at-hand (tag_error y c) n) in (hand-none (tag_error x c) g.0, g.1)
-place-grows (place.Tag x) y c b v h n = absurd (none_some y h)
-place-grows (place.Value x) (place.Value y) c b v h n = value-grows x y NoTriple Closed c b v.0 v.1 tt (below-value x y h) n
-place-grows (place.Value x) y c b v h n = absurd (none_some y h)
-place-grows x (place.Script j) c b v h n = absurd (some _ n)
-place-grows (place.Script i) y c b v h n = absurd (none_some y h)
-place-grows (place.Style i) (place.Style j) c b v h n =
+place-grows (place.Comment x) y c b k v h n = absurd (none_some y h)
+place-grows (place.Rcdata e) (place.Rcdata f) c b k v h n = same-grows (At (place.Rcdata e)) (At (place.Rcdata f)) c b (ap (λ (x : Element). At (place.Rcdata x)) (below-rcdata e f h)) n
+place-grows (place.Rcdata e) y c b k v h n = absurd (none_some y h)
+place-grows (place.Tag x) (place.Tag y) c b k v h n = let g = tag-grows x y c b v (below-tag x y h) (none-at-hand (tag_error y c) n) in (hand-none (tag_error x c) g.0, g.1)
+place-grows (place.Tag x) y c b k v h n = absurd (none_some y h)
+place-grows (place.Value x) (place.Value y) c b k v h n = value-grows x y NoTriple Closed c b v.0 v.1 tt (below-value x y h) n
+place-grows (place.Value x) y c b k v h n = absurd (none_some y h)
+place-grows (place.Script i) (place.Script j) c b k v h n =
+    script-element-grows Nothing c b (script_scan_start i) (script_scan_start j) k (script-starts i j v h) (inr (inl refl)) n
+place-grows (place.Script i) y c b k v h n = absurd (none_some y h)
+place-grows (place.Style i) (place.Style j) c b k v h n =
     element-grows Nothing c b (style_scan_start i) (style_scan_start j) (styles-grow.places i j (style-below-place i j h)).start n
-place-grows (place.Style i) y c b v h n = absurd (none_some y h)
-place-grows (place.Block x) (place.Block y) c b v h n =
+place-grows (place.Style i) y c b k v h n = absurd (none_some y h)
+place-grows (place.Block x) (place.Block y) c b k v h n =
     (hand-none (block_error x c) (block-grows x y c (block-below x y h) (none-at-hand (block_error y c) n)), scan-same (content_next c element.DataBlock))
-place-grows (place.Block i) y c b v h n = absurd (none_some y h)
+place-grows (place.Block i) y c b k v h n = absurd (none_some y h)
 
 -- a name of an attribute
 second-grows : (x y : Bool) (k : Kind) → Under x y → is_second_type y k ≡ false → is_second_type x k ≡ false
@@ -738,7 +781,7 @@ name-grows : (t : TagOf) (x y : Bool) (k : Kind) (name : List ℕ) (c : Class) (
     → (attribute_name_error t x k (length name) c ≡ None) × ScanBelow (attribute_name_next c b t x k name) (attribute_name_next c b t y k name)
 name-grows t x y k name White b u n = (unless-grows x y (length name) None k u n, one-spot t t (typed_with t x k) (typed_with t y k) only_after (Some k) refl (typed-under t x y k u))
 name-grows t x y k name Solidus b u n = (unless-grows x y (length name) None k u n, one-spot t t (typed_with t x k) (typed_with t y k) only_before None refl (typed-under t x y k u))
-name-grows t x y k name GreaterThan b u n = (unless-grows x y (length name) (content_error t) k u n, ends-same t t refl)
+name-grows t x y k name GreaterThan b u n = (unless-grows x y (length name) None k u n, ends-same t t refl)
 name-grows t x y k name EqualsSign b u n = (unless-grows x y (length name) None k u n, begins-same t t x y k refl u)
 name-grows t x y k name QuotationMark b u n = absurd (some _ n)
 name-grows t x y k name Apostrophe b u n = absurd (some _ n)
@@ -837,86 +880,93 @@ element-grows-to s x g c b u n =
     (λ m l e. element-grows x c b s m l e)
     (λ d k l e. subst (λ (z : Pending). Grows (InStyleElement s z) (At (place.Style d)) c b) (sym k) (element-grows Nothing c b s (style_scan_start d) l e)) n
 
-pub scan-grows : (f g : Scan) (c : Class) (b : ℕ) → ScanValid f → ScanBelow f g → scan_error g c b ≡ None → Grows f g c b
-scan-grows (At x) (At y) c b v h n = place-grows x y c b v h n
-scan-grows (At x) AfterLess c b v h n = absurd h
-scan-grows (At x) AfterLessSolidus c b v h n = absurd h
-scan-grows (At x) (InDeclaration pending) c b v h n = absurd h
-scan-grows (At x) (InTagName ends name) c b v h n = absurd h
-scan-grows (At x) (InAttributeName t y m) c b v h n = absurd h
-scan-grows (At x) (InCommentEnd s) c b v h n = absurd h
-scan-grows (At x) (InContentEnd e y) c b v h n = absurd h
-scan-grows (At x) (InStyleElement e y) c b v h n = absurd h
-scan-grows (At x) (BeforeType t) c b v h n = absurd h
-scan-grows (At x) (InType t q w r) c b v h n = absurd h
-scan-grows (At x) (InStyle w s r) c b v h n = absurd h
-scan-grows (At x) (InScript w s r) c b v h n = absurd h
-scan-grows (InAttributeName t x m) (InAttributeName u y l) c b v h n = attribute-grows t u x y m l c b h.0 h.1 h.2 n
-scan-grows (InAttributeName t x m) (At y) c b v h n = absurd h
-scan-grows (InAttributeName t x m) AfterLess c b v h n = absurd h
-scan-grows (InAttributeName t x m) AfterLessSolidus c b v h n = absurd h
-scan-grows (InAttributeName t x m) (InDeclaration pending) c b v h n = absurd h
-scan-grows (InAttributeName t x m) (InTagName ends name) c b v h n = absurd h
-scan-grows (InAttributeName t x m) (InCommentEnd s) c b v h n = absurd h
-scan-grows (InAttributeName t x m) (InContentEnd e y) c b v h n = absurd h
-scan-grows (InAttributeName t x m) (InStyleElement e y) c b v h n = absurd h
-scan-grows (InAttributeName t x m) (BeforeType u) c b v h n = absurd h
-scan-grows (InAttributeName t x m) (InType u q w r) c b v h n = absurd h
-scan-grows (InAttributeName t x m) (InStyle w s r) c b v h n = absurd h
-scan-grows (InAttributeName t x m) (InScript w s r) c b v h n = absurd h
-scan-grows (At x) (InUrl y t r) c b v h n = absurd h
-scan-grows (InAttributeName t x m) (InUrl y u r) c b v h n = absurd h
-scan-grows (InUrl x t r) (InUrl y u z) c b v h n = url-grows x y t u r z c b v.0 (within-body x.body v.1) h.0 h.1 h.2 n
-scan-grows (InUrl x t r) (At y) c b v h n = absurd h
-scan-grows (InUrl x t r) AfterLess c b v h n = absurd h
-scan-grows (InUrl x t r) AfterLessSolidus c b v h n = absurd h
-scan-grows (InUrl x t r) (InDeclaration pending) c b v h n = absurd h
-scan-grows (InUrl x t r) (InTagName ends name) c b v h n = absurd h
-scan-grows (InUrl x t r) (InAttributeName u y l) c b v h n = absurd h
-scan-grows (InUrl x t r) (InCommentEnd s) c b v h n = absurd h
-scan-grows (InUrl x t r) (InContentEnd e y) c b v h n = absurd h
-scan-grows (InUrl x t r) (InStyleElement e y) c b v h n = absurd h
-scan-grows (InUrl x t r) (BeforeType u) c b v h n = absurd h
-scan-grows (InUrl x t r) (InType u q w z) c b v h n = absurd h
-scan-grows (InUrl x t r) (InStyle w s z) c b v h n = absurd h
-scan-grows (InUrl x t r) (InScript w s z) c b v h n = absurd h
-scan-grows (InStyle x s r) (InStyle y m z) c b v h n = style-by x y s m r z c b v.0 v.1 h.0 h.1 n
-scan-grows (InStyle x s r) (At p) c b v h n = under-place-grows x s r p c b v.0 v.1 h.0 h.1 n
-scan-grows (InStyle x s r) AfterLess c b v h n = absurd h
-scan-grows (InStyle x s r) AfterLessSolidus c b v h n = absurd h
-scan-grows (InStyle x s r) (InDeclaration d) c b v h n = absurd h
-scan-grows (InStyle x s r) (InTagName d e) c b v h n = absurd h
-scan-grows (InStyle x s r) (InAttributeName d e k) c b v h n = absurd h
-scan-grows (InStyle x s r) (InCommentEnd d) c b v h n = absurd h
-scan-grows (InStyle x s r) (InContentEnd d e) c b v h n = absurd h
-scan-grows (InStyle x s r) (InStyleElement d e) c b v h n = absurd h
-scan-grows (InStyle x s r) (BeforeType d) c b v h n = absurd h
-scan-grows (InStyle x s r) (InType d e k l) c b v h n = absurd h
-scan-grows (InStyle x s r) (InUrl d e k) c b v h n = absurd h
-scan-grows (InStyle x s r) (InScript d e k) c b v h n = absurd h
-scan-grows (InScript x s r) (InScript y m z) c b v h n = script-by x y s m r z c b v.0 v.1 h.0 h.1 n
-scan-grows (InScript x s r) (At p) c b v h n = absurd h
-scan-grows (InScript x s r) AfterLess c b v h n = absurd h
-scan-grows (InScript x s r) AfterLessSolidus c b v h n = absurd h
-scan-grows (InScript x s r) (InDeclaration d) c b v h n = absurd h
-scan-grows (InScript x s r) (InTagName d e) c b v h n = absurd h
-scan-grows (InScript x s r) (InAttributeName d e k) c b v h n = absurd h
-scan-grows (InScript x s r) (InCommentEnd d) c b v h n = absurd h
-scan-grows (InScript x s r) (InContentEnd d e) c b v h n = absurd h
-scan-grows (InScript x s r) (InStyleElement d e) c b v h n = absurd h
-scan-grows (InScript x s r) (BeforeType d) c b v h n = absurd h
-scan-grows (InScript x s r) (InType d e k l) c b v h n = absurd h
-scan-grows (InScript x s r) (InUrl d e k) c b v h n = absurd h
-scan-grows (InScript x s r) (InStyle d e k) c b v h n = absurd h
-scan-grows AfterLess g c b v h n = same-grows AfterLess g c b h n
-scan-grows AfterLessSolidus g c b v h n = same-grows AfterLessSolidus g c b h n
-scan-grows (InDeclaration pending) g c b v h n = same-grows (InDeclaration pending) g c b h n
-scan-grows (InTagName ends name) g c b v h n = same-grows (InTagName ends name) g c b h n
-scan-grows (InCommentEnd s) g c b v h n = same-grows (InCommentEnd s) g c b h n
-scan-grows (InContentEnd e x) g c b v h n = same-grows (InContentEnd e x) g c b h n
-scan-grows (InStyleElement m x) g c b v h n = element-grows-to m x g c b h n
-scan-grows (BeforeType t) g c b v h n = same-grows (BeforeType t) g c b h n
-scan-grows (InType t q w r) g c b v h n = same-grows (InType t q w r) g c b h n
+pub scan-grows : (f g : Scan) (c : Class) (b : ℕ) → class_of b ≡ c → ScanValid f → ScanBelow f g → scan_error g c b ≡ None → Grows f g c b
+scan-grows (At x) (At y) c b i v h n = place-grows x y c b i v h n
+scan-grows (At x) AfterLess c b i v h n = absurd h
+scan-grows (At x) AfterLessSolidus c b i v h n = absurd h
+scan-grows (At x) (InDeclaration pending) c b i v h n = absurd h
+scan-grows (At x) (InTagName ends name) c b i v h n = absurd h
+scan-grows (At x) (InAttributeName t y m) c b i v h n = absurd h
+scan-grows (At x) (InCommentEnd s) c b i v h n = absurd h
+scan-grows (At x) (InContentEnd e y) c b i v h n = absurd h
+scan-grows (At x) (InStyleElement e y) c b i v h n = absurd h
+scan-grows (At x) (InScriptElement d e) c b i v h n = absurd h
+scan-grows (At x) (BeforeType t) c b i v h n = absurd h
+scan-grows (At x) (InType t q w r) c b i v h n = absurd h
+scan-grows (At x) (InStyle w s r) c b i v h n = absurd h
+scan-grows (At x) (InScript w s r) c b i v h n = absurd h
+scan-grows (InAttributeName t x m) (InAttributeName u y l) c b i v h n = attribute-grows t u x y m l c b h.0 h.1 h.2 n
+scan-grows (InAttributeName t x m) (At y) c b i v h n = absurd h
+scan-grows (InAttributeName t x m) AfterLess c b i v h n = absurd h
+scan-grows (InAttributeName t x m) AfterLessSolidus c b i v h n = absurd h
+scan-grows (InAttributeName t x m) (InDeclaration pending) c b i v h n = absurd h
+scan-grows (InAttributeName t x m) (InTagName ends name) c b i v h n = absurd h
+scan-grows (InAttributeName t x m) (InCommentEnd s) c b i v h n = absurd h
+scan-grows (InAttributeName t x m) (InContentEnd e y) c b i v h n = absurd h
+scan-grows (InAttributeName t x m) (InStyleElement e y) c b i v h n = absurd h
+scan-grows (InAttributeName t x m) (InScriptElement d e) c b i v h n = absurd h
+scan-grows (InAttributeName t x m) (BeforeType u) c b i v h n = absurd h
+scan-grows (InAttributeName t x m) (InType u q w r) c b i v h n = absurd h
+scan-grows (InAttributeName t x m) (InStyle w s r) c b i v h n = absurd h
+scan-grows (InAttributeName t x m) (InScript w s r) c b i v h n = absurd h
+scan-grows (At x) (InUrl y t r) c b i v h n = absurd h
+scan-grows (InAttributeName t x m) (InUrl y u r) c b i v h n = absurd h
+scan-grows (InUrl x t r) (InUrl y u z) c b i v h n = url-grows x y t u r z c b v.0 (within-body x.body v.1) h.0 h.1 h.2 n
+scan-grows (InUrl x t r) (At y) c b i v h n = absurd h
+scan-grows (InUrl x t r) AfterLess c b i v h n = absurd h
+scan-grows (InUrl x t r) AfterLessSolidus c b i v h n = absurd h
+scan-grows (InUrl x t r) (InDeclaration pending) c b i v h n = absurd h
+scan-grows (InUrl x t r) (InTagName ends name) c b i v h n = absurd h
+scan-grows (InUrl x t r) (InAttributeName u y l) c b i v h n = absurd h
+scan-grows (InUrl x t r) (InCommentEnd s) c b i v h n = absurd h
+scan-grows (InUrl x t r) (InContentEnd e y) c b i v h n = absurd h
+scan-grows (InUrl x t r) (InStyleElement e y) c b i v h n = absurd h
+scan-grows (InUrl x t r) (InScriptElement d e) c b i v h n = absurd h
+scan-grows (InUrl x t r) (BeforeType u) c b i v h n = absurd h
+scan-grows (InUrl x t r) (InType u q w z) c b i v h n = absurd h
+scan-grows (InUrl x t r) (InStyle w s z) c b i v h n = absurd h
+scan-grows (InUrl x t r) (InScript w s z) c b i v h n = absurd h
+scan-grows (InStyle x s r) (InStyle y m z) c b i v h n = style-by x y s m r z c b v.0 v.1 h.0 h.1 n
+scan-grows (InStyle x s r) (At p) c b i v h n = under-place-grows x s r p c b v.0 v.1 h.0 h.1 n
+scan-grows (InStyle x s r) AfterLess c b i v h n = absurd h
+scan-grows (InStyle x s r) AfterLessSolidus c b i v h n = absurd h
+scan-grows (InStyle x s r) (InDeclaration d) c b i v h n = absurd h
+scan-grows (InStyle x s r) (InTagName d e) c b i v h n = absurd h
+scan-grows (InStyle x s r) (InAttributeName d e k) c b i v h n = absurd h
+scan-grows (InStyle x s r) (InCommentEnd d) c b i v h n = absurd h
+scan-grows (InStyle x s r) (InContentEnd d e) c b i v h n = absurd h
+scan-grows (InStyle x s r) (InStyleElement d e) c b i v h n = absurd h
+scan-grows (InStyle x s r) (InScriptElement d e) c b i v h n = absurd h
+scan-grows (InStyle x s r) (BeforeType d) c b i v h n = absurd h
+scan-grows (InStyle x s r) (InType d e k l) c b i v h n = absurd h
+scan-grows (InStyle x s r) (InUrl d e k) c b i v h n = absurd h
+scan-grows (InStyle x s r) (InScript d e k) c b i v h n = absurd h
+scan-grows (InScript x s r) (InScript y m z) c b i v h n = script-by x y s m r z c b v.0 v.1 h.0 h.1 n
+scan-grows (InScript x s r) (At p) c b i v h n = absurd h
+scan-grows (InScript x s r) AfterLess c b i v h n = absurd h
+scan-grows (InScript x s r) AfterLessSolidus c b i v h n = absurd h
+scan-grows (InScript x s r) (InDeclaration d) c b i v h n = absurd h
+scan-grows (InScript x s r) (InTagName d e) c b i v h n = absurd h
+scan-grows (InScript x s r) (InAttributeName d e k) c b i v h n = absurd h
+scan-grows (InScript x s r) (InCommentEnd d) c b i v h n = absurd h
+scan-grows (InScript x s r) (InContentEnd d e) c b i v h n = absurd h
+scan-grows (InScript x s r) (InStyleElement d e) c b i v h n = absurd h
+scan-grows (InScript x s r) (InScriptElement d e) c b i v h n = absurd h
+scan-grows (InScript x s r) (BeforeType d) c b i v h n = absurd h
+scan-grows (InScript x s r) (InType d e k l) c b i v h n = absurd h
+scan-grows (InScript x s r) (InUrl d e k) c b i v h n = absurd h
+scan-grows (InScript x s r) (InStyle d e k) c b i v h n = absurd h
+scan-grows AfterLess g c b i v h n = same-grows AfterLess g c b h n
+scan-grows AfterLessSolidus g c b i v h n = same-grows AfterLessSolidus g c b h n
+scan-grows (InDeclaration pending) g c b i v h n = same-grows (InDeclaration pending) g c b h n
+scan-grows (InTagName ends name) g c b i v h n = same-grows (InTagName ends name) g c b h n
+scan-grows (InCommentEnd s) g c b i v h n = same-grows (InCommentEnd s) g c b h n
+scan-grows (InContentEnd e x) g c b i v h n = same-grows (InContentEnd e x) g c b h n
+scan-grows (InStyleElement m x) g c b i v h n = element-grows-to m x g c b h n
+scan-grows (InScriptElement m x) (InScriptElement k y) c b i v h n = script-element-by m k x y c b i h.0 h.1 h.2 n
+scan-grows (InScriptElement m x) g c b i v h n = absurd h
+scan-grows (BeforeType t) g c b i v h n = same-grows (BeforeType t) g c b h n
+scan-grows (InType t q w r) g c b i v h n = same-grows (InType t q w r) g c b h n
 
 -- The end of a text.
 
@@ -1036,6 +1086,7 @@ split-grows LessAtCut n m l e = e
 split-grows (PendingName letters) n m l e = e
 split-grows PendingBang n m l e = e
 split-grows PendingBangDash n m l e = e
+split-grows (PendingOpening letters) n m l e = e
 
 element-cut-grows : (h : Pending) (n m : StyleScan) → StyleScanBelow n m → scan_cut_error (InStyleElement m h) ≡ None → scan_lexeme_error (InStyleElement m h) ≡ None
     → Ends (InStyleElement n h) (InStyleElement m h)
@@ -1086,6 +1137,14 @@ script-ends x y n m r z h e f g =
       grows.cut_error g,
     )) f g
 
+-- the element `script` in which a text ends
+script-element-ends : (n m : ScriptScan) (h k : Pending) → ScriptUnder n m → h ≡ k → scan_cut_error (InScriptElement m k) ≡ None
+    → Ends (InScriptElement n h) (InScriptElement m k)
+script-element-ends n m h k l j e =
+    let d = element-cut-below k n m l e in
+    subst (λ (z : Pending). Ends (InScriptElement n z) (InScriptElement m k)) (sym j)
+    (d.0, refl, js-place-below (script_scan_place (feed_bytes script_feeding n (pending_bytes k))) (script_scan_place (feed_bytes script_feeding m (pending_bytes k))) d.1, refl)
+
 pub end-grows : (f g : Scan) → ScanBelow f g → scan_cut_error g ≡ None → scan_lexeme_error g ≡ None → script_cut g ≡ None → Ends f g
 end-grows (At x) (At y) h n m cut = (refl, refl, h, refl)
 end-grows (InUrl x t r) (InUrl y u z) h n m cut = url-ends x y t u r z h.0 h.1 h.2 n m
@@ -1099,6 +1158,7 @@ end-grows (At x) (InAttributeName w y l) h n m cut = absurd h
 end-grows (At x) (InCommentEnd s) h n m cut = absurd h
 end-grows (At x) (InContentEnd e y) h n m cut = absurd h
 end-grows (At x) (InStyleElement e y) h n m cut = absurd h
+end-grows (At x) (InScriptElement d e) h n m cut = absurd h
 end-grows (At x) (BeforeType w) h n m cut = absurd h
 end-grows (At x) (InType w q v k) h n m cut = absurd h
 end-grows (At x) (InStyle w s k) h n m cut = absurd h
@@ -1112,6 +1172,7 @@ end-grows (InUrl x t r) (InAttributeName w y l) h n m cut = absurd h
 end-grows (InUrl x t r) (InCommentEnd s) h n m cut = absurd h
 end-grows (InUrl x t r) (InContentEnd e y) h n m cut = absurd h
 end-grows (InUrl x t r) (InStyleElement e y) h n m cut = absurd h
+end-grows (InUrl x t r) (InScriptElement d e) h n m cut = absurd h
 end-grows (InUrl x t r) (BeforeType w) h n m cut = absurd h
 end-grows (InUrl x t r) (InType w q v k) h n m cut = absurd h
 end-grows (InUrl x t r) (InStyle w s k) h n m cut = absurd h
@@ -1125,6 +1186,7 @@ end-grows (InAttributeName t x o) (InTagName ends name) h n m cut = absurd h
 end-grows (InAttributeName t x o) (InCommentEnd s) h n m cut = absurd h
 end-grows (InAttributeName t x o) (InContentEnd e y) h n m cut = absurd h
 end-grows (InAttributeName t x o) (InStyleElement e y) h n m cut = absurd h
+end-grows (InAttributeName t x o) (InScriptElement d e) h n m cut = absurd h
 end-grows (InAttributeName t x o) (BeforeType w) h n m cut = absurd h
 end-grows (InAttributeName t x o) (InType w q v k) h n m cut = absurd h
 end-grows (InAttributeName t x o) (InStyle w s k) h n m cut = absurd h
@@ -1139,6 +1201,7 @@ end-grows (InStyle x s r) (InAttributeName d e k) h n o cut = absurd h
 end-grows (InStyle x s r) (InCommentEnd d) h n o cut = absurd h
 end-grows (InStyle x s r) (InContentEnd d e) h n o cut = absurd h
 end-grows (InStyle x s r) (InStyleElement d e) h n o cut = absurd h
+end-grows (InStyle x s r) (InScriptElement d e) h n o cut = absurd h
 end-grows (InStyle x s r) (BeforeType d) h n o cut = absurd h
 end-grows (InStyle x s r) (InType d e k l) h n o cut = absurd h
 end-grows (InStyle x s r) (InUrl d e k) h n o cut = absurd h
@@ -1153,6 +1216,7 @@ end-grows (InScript x s r) (InAttributeName d e k) h n m cut = absurd h
 end-grows (InScript x s r) (InCommentEnd d) h n m cut = absurd h
 end-grows (InScript x s r) (InContentEnd d e) h n m cut = absurd h
 end-grows (InScript x s r) (InStyleElement d e) h n m cut = absurd h
+end-grows (InScript x s r) (InScriptElement d e) h n m cut = absurd h
 end-grows (InScript x s r) (BeforeType d) h n m cut = absurd h
 end-grows (InScript x s r) (InType d e k l) h n m cut = absurd h
 end-grows (InScript x s r) (InUrl d e k) h n m cut = absurd h
@@ -1164,5 +1228,7 @@ end-grows (InTagName ends name) g h n m cut = same-ends (InTagName ends name) g 
 end-grows (InCommentEnd s) g h n m cut = same-ends (InCommentEnd s) g h n m refl
 end-grows (InContentEnd e x) g h n m cut = same-ends (InContentEnd e x) g h n m refl
 end-grows (InStyleElement s x) g h n m cut = element-ends-to s x g h n m
+end-grows (InScriptElement s x) (InScriptElement k y) h n m cut = script-element-ends s k x y h.0 h.1 n
+end-grows (InScriptElement s x) g h n m cut = absurd h
 end-grows (BeforeType t) g h n m cut = same-ends (BeforeType t) g h n m refl
 end-grows (InType t q w r) g h n m cut = same-ends (InType t q w r) g h n m refl

@@ -1,20 +1,17 @@
 -- A path on which it is not known what a slash would be, among paths that differ in that: what the others are not refused it is not, as long as they
 -- differ; so that those that show a refusal do so before the bytes.
-use Rattle.std.proofs.Common.{◌≡◌, ℕ, ◌+◌, ◌-◌, Bool, true, false, ◌||◌, ◌&&◌, List, [], ◌∷◌, ◌++◌, length, Option, Some, None, Result, Ok, Err, if◌then◌else◌, refl, sym, ap, ◌∙◌, subst}
+use Rattle.std.proofs.Common.{◌≡◌, ℕ, ◌+◌, ◌-◌, Bool, true, false, ◌&&◌, List, [], ◌∷◌, ◌++◌, length, Option, Some, None, Err, if◌then◌else◌, refl, sym, ap, ◌∙◌, subst}
 use Rattle.std.specs.Prelude.{encode_utf8, codes}
-use Rattle.js_lexer.specs.Refusals.{Cause}
-use Rattle.js_lexer.specs.States as state
-use Rattle.js_step.specs.ScriptOrigins.{script_set_at, script_set_has, script_tails_at}
+use Rattle.js_step.specs.ScriptOrigins.{script_set_has}
 use Rattle.js_step.specs.ScriptScanOrder.{ScriptScanBelow}
-use Rattle.js_step.specs.ScriptScans.{ScriptScan, script_scan_error, script_scan_next, script_scan_start, script_senses_differ}
+use Rattle.js_step.specs.ScriptScans.{ScriptScan, script_scan_start, script_senses_differ}
 use Rattle.js_step.proofs.ScriptClash.{scripts-clash}
 use Rattle.place_core.specs.page.Classes.{Class, White, QuotationMark, Apostrophe, GreaterThan, LessThan, EqualsSign, GraveAccent, class_of, is_equals_sign, Solidus, Letter, ExclamationMark, HyphenMinus}
 use Rattle.place_core.specs.page.Comments.{Declaration, OpensComment, OpensDoctype, Undecided, OpensNothing, closes_comment, next_comment, declared_by}
 use Rattle.place_core.specs.page.Html.{ends_value}
 use Rattle.place_core.specs.page.References.{Form, Reference, Closed, Open, ReferenceStep, Grows, Closes, Breaks, flushed, meaning, next_reference, plain_bytes, turn, turn_bytes, undone_byte}
-use Rattle.place_core.specs.page.Tags.{feed_bytes, DoubleQuoted, SingleQuoted, Unquoted, Quoting, Value, ValueState, element_on, tag_of_name}
+use Rattle.place_core.specs.page.Tags.{feed_bytes, Unquoted, Quoting, Value, ValueState, element_on, tag_of_name}
 use Rattle.place_core.specs.place.Errors.{FedByte, PathCause, PathRefusal, TextRead, at_hand, bare_error, body_error, deep_at, fed_places, first_byte_error, first_cause, first_places, is_written, language_error, placed_bytes, places_with, quotes_error, turned_places, value_end_cause, value_error, fed_error, first_error, or_deep}
-use Rattle.place_core.specs.place.LanguagePlaces.{js_star_has}
 use Rattle.place_core.specs.place.Places.{joined_quotes, IsValidBody}
 use Rattle.place_core.specs.declared.bare.Bare.{Bare}
 use Rattle.place_core.specs.declared.body.Body.{Body}
@@ -24,49 +21,45 @@ use Rattle.place_core.specs.declared.css.Css.{Css}
 use Rattle.place_core.specs.declared.element.Element.{Element}
 use Rattle.place_core.specs.declared.element.Element.TheVariants as element
 use Rattle.place_core.specs.declared.js.Js.{Js}
-use Rattle.place_core.specs.declared.js_tails.JsTails.{JsTails}
 use Rattle.place_core.specs.declared.kind.Kind.{Kind}
 use Rattle.place_core.specs.declared.kind.Kind.TheVariants as kind
 use Rattle.place_core.specs.declared.member.Member.{Member}
 use Rattle.place_core.specs.declared.member.Member.TheVariants as member
 use Rattle.place_core.specs.declared.parts.Parts.{Parts}
-use Rattle.place_core.specs.declared.place.Place.{Place}
 use Rattle.place_core.specs.declared.place.Place.TheVariants as place
 use Rattle.place_core.specs.declared.quotes.Quotes.{Quotes}
 use Rattle.place_core.specs.declared.quotes.Quotes.TheVariants as quotes
-use Rattle.place_core.specs.declared.senses.Senses.{Senses}
 use Rattle.place_core.specs.declared.tag_of.TagOf.{TagOf}
 use Rattle.place_core.specs.declared.tag_of.TagOf.TheVariants as tag
 use Rattle.place_core.specs.declared.tag_place.TagPlace.{TagPlace}
 use Rattle.place_core.specs.declared.value_place.ValuePlace.{ValuePlace}
 use Rattle.place_core.proofs.Semilattices.{none_some}
-use Rattle.html_scan.specs.Scans.{Scan, At, InScript, all_scripts, bare_begun, bare_white, content_scan, ends_quoted, quoted_error, quoted_places, quotes_lead, scan_error, scan_next, scan_script_refusal, script_cause, script_fed_byte, script_fed_next, script_feeding, script_step_deep, script_step_refusal, value_between, AfterLess, AfterLessSolidus, InDeclaration, InTagName, InAttributeName, InUrl, InStyle, InStyleElement, InCommentEnd, InContentEnd, BeforeType, InType, after_type, attribute_name_next, bang_next, before_type_next, begun_script_deep, begun_script_fed, begun_script_refusal, body_cause, comment_closed, comment_next, comment_scan, comment_state, content_end_next, content_next, declaration_next, doctype_next, element_less_next, element_name_next, element_next, element_pending_next, empty_script_between, empty_style_between, end_name_next, ended_type, less_next, parts_feeding, pending_less_next, rest_place, solidus_next, style_fed, style_feeding, style_scan, style_value_next, tag_name_next, tag_next, text_scan, triple_behind, type_begun, type_next, type_tag, url_scan, value_cause, value_fed, value_next, value_scan, with_parts, with_style}
+use Rattle.html_scan.specs.Scans.{Scan, At, InScript, InScriptElement, all_scripts, bare_begun, bare_white, content_scan, ends_quoted, quoted_error, quoted_places, quotes_lead, scan_error, scan_next, scan_script_refusal, script_cause, script_fed_next, script_feeding, script_step_deep, script_step_refusal, value_between, AfterLess, AfterLessSolidus, InDeclaration, InTagName, InAttributeName, InUrl, InStyle, InStyleElement, InCommentEnd, InContentEnd, BeforeType, InType, after_type, attribute_name_next, bang_next, before_type_next, begun_script_deep, begun_script_fed, begun_script_refusal, body_cause, comment_closed, comment_next, comment_scan, comment_state, content_end_next, content_next, declaration_next, doctype_next, element_less_next, element_name_next, element_next, element_pending_next, empty_script_between, empty_style_between, end_name_next, ended_type, less_next, parts_feeding, pending_less_next, rest_place, solidus_next, style_fed, style_feeding, style_scan, style_value_next, tag_name_next, tag_next, text_scan, triple_behind, type_begun, type_next, type_tag, url_scan, value_cause, value_fed, value_next, value_scan, with_parts, with_style}
 use Rattle.place_core.specs.page.Contents.{is_name_of, may_be_name_of}
-use Rattle.place_core.specs.page.States.{CommentState, Inside, Broken, Pending, Nothing, PendingLess, LessAtCut, PendingName, PendingBang, PendingBangDash}
+use Rattle.place_core.specs.page.States.{CommentState, Inside, Broken, Pending, Nothing, PendingLess, LessAtCut, PendingName, PendingBang, PendingBangDash, PendingOpening}
 use Rattle.css_lexer.specs.Classes.{style_class}
 use Rattle.css_step.specs.StyleScans.{StyleScan, is_style_start, style_scan_next, style_scan_place, style_scan_start}
 use Rattle.url_lexer.specs.Triples.{Triple, NoTriple, AfterPercent, AfterDigit}
 use Rattle.place_core.specs.page.Words.{kind_of}
 use Rattle.js_step.specs.ScriptEvidence.{script_with_brace, ScriptSensesFit}
 use Rattle.place_core.specs.place.LastLexeme.{last_lexeme_start}
-use Rattle.js_step.proofs.ValidScripts.{scripts-stay-valid}
 use Rattle.js_step.specs.ScriptValidity.{IsScriptScan}
 use Rattle.html_step.proofs.ScriptOrder.{script-start-valid}
 use Rattle.html_step.proofs.StylePaths.{empty_css}
 use Rattle.html_step.proofs.PlaceParts.{Under}
-use Rattle.html_step.specs.Origins.{byte_origin, bytes_of_places, script_value_ends, script_origin, script_shown, script_step_shows, begun_script_shows, body_origin, fed_in, in_value_origin}
-use Rattle.html_step.specs.Steps.{scan_read_behind, stepped, unless_script_refused}
+use Rattle.html_step.specs.Origins.{byte_origin, bytes_of_places, script_value_ends, script_origin, script_shown, script_step_shows, begun_script_shows, body_origin, fed_in, in_body_origin, in_value_origin}
+use Rattle.html_step.specs.Steps.{scan_read_behind, stepped}
 use Rattle.html_step.proofs.FedAlike.{first-caused}
-use Rattle.html_step.proofs.FromParts.{or-first}
 use Rattle.html_step.proofs.PathScans.{none-at-hand}
 use Rattle.html_step.proofs.RefusedColons.{refused-later}
 use Rattle.html_step.proofs.ScanOrder.{HasBegun, ScanHas, ScanValid, bare-parts, first-none, UrlWithin}
-use Rattle.html_step.proofs.ScriptAlike.{alike-quoted, brace-later, fit-byte, fit-fed, same-quoted-bytes}
+use Rattle.html_step.proofs.ScriptAlike.{alike-quoted, fit-fed, same-quoted-bytes, takes-value, value-takes}
+use Rattle.html_step.proofs.ScriptElementBraces.{brace-fed, div-too, element-goes-fit, element-slash, second-true, start-goes-fit, start-slash}
 use Rattle.html_step.proofs.ScriptEnds.{bytes-both, bytes-placed, begun-none}
 use Rattle.html_step.proofs.ScriptFrom.{TakesScript, itself-origin, script-fed-taken}
 use Rattle.html_step.proofs.ScriptQuiet.{both-alike, in-quiet, no_end, quiet-told, taken-error}
 use Rattle.html_step.proofs.SlashCodes.{FedFits, fits-behind, starts-fit}
-use Rattle.html_step.proofs.ScriptTold.{BraceBelow, FedBefore, SameValue, ShownSlash, both-true, brace-same, brace_in, scan_differs, script_differs, value-errors, body_differs, brace_at, ScanFits}
+use Rattle.html_step.proofs.ScriptTold.{BraceBelow, FedBefore, ShownSlash, brace-same, brace_in, scan_differs, script_differs, value-errors, body_differs, brace_at, ScanFits}
 use Rattle.html_step.proofs.ScriptValues.{in-set, place-has}
 
 no : false ≡ true → ⊥
@@ -74,47 +67,6 @@ no e = cc
 
 given : {A : Type 0} (a : A) → Some a ≡ None → ⊥
 given a e = cc
-
--- Where they differ, both senses are there.
-first-true : (x y : Bool) → (x && y) ≡ true → x ≡ true
-first-true true y h = refl
-first-true false y h = absurd (no h)
-
-second-true : (x y : Bool) → (x && y) ≡ true → y ≡ true
-second-true true y h = h
-second-true false y h = absurd (no h)
-
-div-at : (s : Senses) (x : JsTails) (star : Bool) (a : state.At) → (s.re && s.div) ≡ true → script_set_at s x star a member.SenseRe ≡ true
-    → script_set_at s x star a member.SenseDiv ≡ true
-div-at s x star (state.InString q e) d h = absurd (no h)
-div-at s x star (state.InRegexp k e) d h = absurd (no h)
-div-at s x star a d h = or-first s.div (script_tails_at x a member.SenseDiv || js_star_has star member.SenseDiv) (second-true s.re s.div d)
-
-pub div-too : (m : ScriptScan) → script_differs m ≡ true → script_set_has m member.SenseDiv ≡ true
-div-too m d =
-    div-at m.senses m.before m.star m.state.at (first-true (script_senses_differ m.senses) (script_set_has m member.SenseRe) d)
-    (second-true (script_senses_differ m.senses) (script_set_has m member.SenseRe) d)
-
--- the bytes that it is fed
-pub record BraceFed (bytes : List ℕ) (m : ScriptScan) : Type 0 where
-  pub differs : script_differs m ≡ true
-  pub steps : (n : ScriptScan) → ScriptScanBelow n (script_with_brace m) → script_set_has n member.SenseBrace ≡ true
-      → TakesScript bytes n × ScriptScanBelow (feed_bytes script_feeding n bytes) (script_with_brace (feed_bytes script_feeding m bytes))
-      × (script_set_has (feed_bytes script_feeding n bytes) member.SenseBrace ≡ true)
-
-pub brace-fed : (bytes : List ℕ) (m : ScriptScan) → IsScriptScan m → ScriptSensesFit m → TakesScript bytes m → script_differs (feed_bytes script_feeding m bytes) ≡ true → BraceFed bytes m
-brace-fed [] m v k t d = record { differs = d; steps = λ n l h. (tt, l, h) }
-brace-fed (b ∷ bs) m v k t d =
-    let more = brace-fed bs (script_fed_byte m b) (scripts-stay-valid.next m b v) (fit-byte m b v k t.0) t.1 d in
-    let apart = first-true (script_senses_differ (script_fed_byte m b).senses) (script_set_has (script_fed_byte m b) member.SenseRe) more.differs in
-    let p = scripts-clash.before false m b k t.0 apart in
-    let c = scripts-clash.clashes m k p.0 in
-    record {
-      differs = both-true (script_senses_differ m.senses) (script_set_has m member.SenseRe) p.0 p.1;
-      steps = λ n l h. let z = brace-later m b t.0 apart c n l h in
-          let w = more.steps (script_fed_byte n b) z.1 z.2 in
-          ((z.0, w.0), w.1, w.2);
-    }
 
 -- A byte that goes on with a value that has begun, in its quotes.
 abbrev OrdinaryBare : Class → Type 0
@@ -265,7 +217,7 @@ in-slash k since b bs v m r z x y w fit q none d =
     let same : fed ≡ bytes = quoted-undone v.quotes c o u r b in
     let told = quiet-told v.quotes r c b m q in
     let taken : TakesScript bytes m = subst (λ (xs : List ℕ). TakesScript xs m) same told.0 in
-    let s = brace-fed bytes m w.2 fit taken (sym (ap scan_differs next) ∙ d.differ) in
+    let s = brace-fed false bytes m w.2 fit (value-takes bytes m taken) (sym (ap scan_differs next) ∙ d.differ) in
     let div = div-too m s.differs in
     let re = second-true (script_senses_differ m.senses) (script_set_has m member.SenseRe) s.differs in
     let first = ap (byte_origin f c b) d.first ∙ itself-origin m member.SenseDiv div in
@@ -287,7 +239,7 @@ in-slash k since b bs v m r z x y w fit q none d =
           let t = s.steps n l h in
           let g = InScript a n r in
           let G : Quotes → Scan = λ i. script_fed_next (value_between a i) n r c b in
-          let own : TakesScript fed n = subst (λ (xs : List ℕ). TakesScript xs n) (sym same) t.0 in
+          let own : TakesScript fed n = subst (λ (xs : List ℕ). TakesScript xs n) (sym same) (takes-value bytes n t.0) in
           let stop = stays v.quotes c o u in
           let refusal : scan_script_refusal k since.fed g c b ≡ None =
           ap (λ (j : Quotes). script_step_refusal j k since.fed n r c b) e.quotes
@@ -385,7 +337,7 @@ AtNext v c b p = value_fed v p v.body NoTriple Closed c b
 goes-differ : (v : ValuePlace) (j : Js) (p : Quotes) (c : Class) (b : ℕ) → IsScriptScan (script_scan_start j) → v.body ≡ body.Js j → TakesScript (plain_bytes c b) (script_scan_start j)
     → scan_differs (AtNext v c b p) ≡ true → script_differs (script_scan_start j) ≡ true
 goes-differ v j p c b i d t h =
-    (brace-fed (plain_bytes c b) (script_scan_start j) i (scripts-clash.start j) t
+    (brace-fed false (plain_bytes c b) (script_scan_start j) i (scripts-clash.start j) (value-takes (plain_bytes c b) (script_scan_start j) t)
     (sym (ap (λ (x : Body). scan_differs (value_fed v p x NoTriple Closed c b)) d) ∙ h)).differs
 
 white-differ : (v : ValuePlace) (x : Bool) → scan_differs (bare_white v x) ≡ true → body_differs v.body ≡ true
@@ -476,7 +428,7 @@ at-slash k since b bs v j z x y valid jb q none d =
     let div = div-too m differs in
     let re = second-true (script_senses_differ m.senses) (script_set_has m member.SenseRe) differs in
     let origin : (w : Member) → byte_origin f c b w ≡ script_origin m (in_value_origin w) =
-    λ w. ap (λ (i : Body). body_origin i (fed_in v.quotes Closed c b) (in_value_origin w)) jb in
+    λ w. ap (λ (i : Body). body_origin i (fed_in v.quotes Closed c b) (in_body_origin i w)) jb in
     let first = ap (byte_origin f c b) d.first ∙ origin member.SenseDiv ∙ itself-origin m member.SenseDiv div in
     let second = ap (byte_origin f c b) d.second ∙ origin member.SenseRe ∙ itself-origin m member.SenseRe re in
     record {
@@ -501,10 +453,10 @@ at-slash k since b bs v j z x y valid jb q none d =
           let behind : scan_next g c b ≡ script_fed_next (empty_script_between a p) (script_scan_start i) Closed c b =
           lead a.quotes c w a (AtNext a c b) ∙ ap (AtNext a c b) (same-open a.quotes v.quotes l) ∙ ap (λ (e : Body). value_fed a p e NoTriple Closed c b) ib in
           let taken : TakesScript bytes m = script-fed-taken bytes m false 0 (sym (error-as v.quotes c o uq m b) ∙ own) in
-          let fed = brace-fed bytes m valid (scripts-clash.start j) taken (sym (ap scan_differs next_js) ∙ d.differ) in
+          let fed = brace-fed false bytes m valid (scripts-clash.start j) (value-takes bytes m taken) (sym (ap scan_differs next_js) ∙ d.differ) in
           let t = fed.steps (script_scan_start i) n s in
           let quiet : quoted_error script_feeding a.quotes (script_scan_start i) Closed c b ≡ None =
-          error-as a.quotes c w own_uq (script_scan_start i) b ∙ taken-error bytes false 0 (script_scan_start i) t.0 in
+          error-as a.quotes c w own_uq (script_scan_start i) b ∙ taken-error bytes false 0 (script_scan_start i) (takes-value bytes (script_scan_start i) t.0) in
           let begun = begun-none (body.Js i) a.quotes k c b quiet in
           let met = begun-none (body.Js j) v.quotes k c b own in
           let refusal : scan_script_refusal k since.fed g c b ≡ None = ap (λ (e : Body). begun_script_refusal e a.quotes k c b) ib ∙ begun.0 in
@@ -623,6 +575,7 @@ pending-alone s LessAtCut c b = element-alone (feed_bytes style_feeding s (codes
 pending-alone s (PendingName letters) c b =
     name-alone s (may_be_name_of element.Style (letters ++ b ∷ [])) (is_name_of element.Style letters) c b letters
 pending-alone s PendingBang c b = element-alone (feed_bytes style_feeding s (codes "<!")) c b
+pending-alone s (PendingOpening letters) c b = element-alone (feed_bytes style_feeding s (codes "<" ++ letters)) c b
 pending-alone s PendingBangDash c b = element-alone (feed_bytes style_feeding s (codes "<!-")) c b
 
 less-next-alone : (c : Class) (b : ℕ) → Alone (less_next c b)
@@ -785,6 +738,7 @@ pub slash-earlier : (k : ℕ) (since : TextRead) (b : ℕ) (bs : List ℕ) (f : 
     → ShownSlash k since (b ∷ bs) f r (byte_origin f (class_of b) b x) (byte_origin f (class_of b) b y)
 slash-earlier k since b bs (InScript v m z) r x y w fit q n d = in-slash k since b bs v m z r x y w fit q n d
 slash-earlier k since b bs (At (place.Value v)) r x y w fit q n d = value-slash k since b bs v v.body r x y w.1 refl q n d
+slash-earlier k since b bs (InScriptElement m h) r x y w fit q n d = element-slash k since b bs m h r x y w fit n d
 slash-earlier k since b bs (At place.Text) r x y w fit q n d = absurd ((text-alone (class_of b)).0 d.differ)
 slash-earlier k since b bs (At place.Doctype) r x y w fit q n d = absurd ((doctype-alone (class_of b)).0 d.differ)
 slash-earlier k since b bs (At (place.Comment s)) r x y w fit q n d = absurd ((comment-next-alone (class_of b) (comment_state s)).0 d.differ)
@@ -792,7 +746,7 @@ slash-earlier k since b bs (At (place.Rcdata e)) r x y w fit q n d = absurd ((co
 slash-earlier k since b bs (At (place.Tag t)) r x y w fit q n d = absurd ((tag-alone t (class_of b) b).0 d.differ)
 slash-earlier k since b bs (At (place.Block s)) r x y w fit q n d = absurd ((content-alone (class_of b) element.DataBlock).0 d.differ)
 slash-earlier k since b bs (At (place.Style p)) r x y w fit q n d = absurd ((element-alone (style_scan_start p) (class_of b) b).0 d.differ)
-slash-earlier k since b bs (At (place.Script j)) r x y w fit q n d = absurd (no d.differ)
+slash-earlier k since b bs (At (place.Script j)) r x y w fit q n d = start-slash k since b bs j r x y w n d
 slash-earlier k since b bs AfterLess r x y w fit q n d = absurd ((less-next-alone (class_of b) b).0 d.differ)
 slash-earlier k since b bs AfterLessSolidus r x y w fit q n d = absurd ((solidus-alone (class_of b) b).0 d.differ)
 slash-earlier k since b bs (InDeclaration s) r x y w fit q n d = absurd ((declaration-alone (declared_by (s ++ b ∷ [])) (class_of b) b s).0 d.differ)
@@ -849,7 +803,8 @@ fits-next b (InScript v m r) w fit q none =
     (subst (λ (xs : List ℕ). TakesScript xs m) (quoted-undone v.quotes c o (begun-uq v.quotes w.0) r b) told.0))
 fits-next b (At (place.Value v)) w fit q none =
     value-fits v v.body (class_of b) b w.1 refl (first-caused (body_cause v.body v.quotes Closed (class_of b) b) (at_hand (value_error v (class_of b))) none).0
-fits-next b (At (place.Script j)) w fit q none = tt
+fits-next b (At (place.Script j)) w fit q none = start-goes-fit b j w none
+fits-next b (InScriptElement m h) w fit q none = element-goes-fit b m h w fit none
 fits-next b (At place.Text) w fit q none = (text-alone (class_of b)).1
 fits-next b (At place.Doctype) w fit q none = (doctype-alone (class_of b)).1
 fits-next b (At (place.Comment s)) w fit q none = (comment-next-alone (class_of b) (comment_state s)).1

@@ -14,16 +14,18 @@ use Rattle.js_step.specs.ScriptScanOrder.{ScriptScanBelow, differ_within}
 use Rattle.js_step.specs.ScriptScans.{script_no_senses, script_one_sense, script_scan_start}
 use Rattle.js_step.specs.ScriptSetLaws.{keeps_block, keeps_code, keeps_line}
 use Rattle.place_core.specs.page.References.{Reference, Closed, Open}
-use Rattle.place_core.specs.page.States.{LexState, AttributeValue}
+use Rattle.place_core.specs.page.States.{LexState, AttributeValue, InContent, InLanguage, Pending, Nothing, PendingLess, LessAtCut, PendingName, PendingBang, PendingBangDash, PendingOpening}
 use Rattle.place_core.specs.page.Tags.{Tag, Quoting, DoubleQuoted, SingleQuoted, Unquoted, ValueOf, ValueState, OfScript}
 use Rattle.place_core.specs.place.LanguagePlaces.{both_js_tails, both_senses, joined_js}
 use Rattle.place_core.specs.place.Membership.{IsIn}
 use Rattle.place_core.specs.place.PathPairs.{either_slash, either_slash_markup, either_slash_script, either_slash_trail, sense_at_text, with_either_slash}
 use Rattle.place_core.specs.place.Places.{Below, joined_bodies}
-use Rattle.place_core.specs.place.ScriptParts.{is_trail_of_cut, may_begin_text_at, script_body, script_no_tails, script_place, script_senses, script_tails}
+use Rattle.place_core.specs.place.ScriptParts.{is_trail_of_cut, may_begin_text_at, script_js, script_no_tails, script_place, script_senses, script_tails}
 use Rattle.place_core.specs.place.StatePlaces.{placed, quotes_at, value_spot}
 use Rattle.place_core.specs.declared.body.Body.{Body}
 use Rattle.place_core.specs.declared.body.Body.TheVariants as body
+use Rattle.place_core.specs.declared.element.Element.{Element}
+use Rattle.place_core.specs.declared.element.Element.TheVariants as element
 use Rattle.place_core.specs.declared.js.Js.{Js}
 use Rattle.place_core.specs.declared.js.Js.TheVariants as js
 use Rattle.place_core.specs.declared.js_tails.JsTails.{JsTails}
@@ -33,6 +35,7 @@ use Rattle.place_core.specs.declared.place.Place.TheVariants as place
 use Rattle.place_core.specs.declared.senses.Senses.{Senses}
 use Rattle.place_core.specs.declared.value_place.ValuePlace.{ValuePlace}
 use Rattle.place_core.proofs.Semilattices.{none_some, one_value}
+use Rattle.html_step.proofs.JsPlaces.{js-below-place}
 use Rattle.html_step.proofs.PlaceParts.{ValueBelow, below-value}
 use Rattle.html_step.proofs.ScanOrder.{HasBegun}
 use Rattle.html_step.proofs.ScriptOrder.{js-below}
@@ -125,40 +128,37 @@ either-spot (InRegexp k z) t x p h e i = absurd (none_some x i)
 either-spot (InTemplate z d) t x p h e i = absurd (none_some x i)
 either-spot TooDeep t x p h e i = absurd (none_some x i)
 
-abbrev body_by : Bool → Bool → Bool → Option Spot → Option Body
-body_by x y z o = if x && y then option_map (λ (p : Spot). body.Js (script_place p)) (if z then o else None) else None
+abbrev js_by : Bool → Bool → Bool → Option Spot → Option Js
+js_by x y z o = if x && y then option_map script_place (if z then o else None) else None
 
-body-from : (x y z : Bool) (o : Option Spot) (b : Body) → body_by x y z o ≡ Some b
-    → (x ≡ true) × (y ≡ true) × (z ≡ true) × ((p : Spot) × (o ≡ Some p) × (body.Js (script_place p) ≡ b))
-body-from true true true (Some p) b e = (refl, refl, refl, (p, refl, one_value (body.Js (script_place p)) b e))
-body-from true true true None b e = absurd (none_some b e)
-body-from true true false o b e = absurd (none_some b e)
-body-from true false z o b e = absurd (none_some b e)
-body-from false y z o b e = absurd (none_some b e)
+js-from : (x y z : Bool) (o : Option Spot) (c : Js) → js_by x y z o ≡ Some c
+    → (x ≡ true) × (y ≡ true) × (z ≡ true) × ((p : Spot) × (o ≡ Some p) × (script_place p ≡ c))
+js-from true true true (Some p) c e = (refl, refl, refl, (p, refl, one_value (script_place p) c e))
+js-from true true true None c e = absurd (none_some c e)
+js-from true true false o c e = absurd (none_some c e)
+js-from true false z o c e = absurd (none_some c e)
+js-from false y z o c e = absurd (none_some c e)
 
-body-to : (x y z : Bool) (o : Option Spot) (i : Js) → x ≡ true → y ≡ true → z ≡ true → option_map script_place o ≡ Some i → body_by x y z o ≡ Some (body.Js i)
-body-to true true true (Some p) i a b c e = ap (λ (j : Js). Some (body.Js j)) (one_value (script_place p) i e)
-body-to true true true None i a b c e = absurd (none_some i e)
-body-to true true false o i a b c e = absurd (no c)
-body-to true false z o i a b c e = absurd (no b)
-body-to false y z o i a b c e = absurd (no a)
+js-to : (x y z : Bool) (o : Option Spot) (i : Js) → x ≡ true → y ≡ true → z ≡ true → option_map script_place o ≡ Some i → js_by x y z o ≡ Some i
+js-to true true true (Some p) i a b c e = e
+js-to true true true None i a b c e = absurd (none_some i e)
+js-to true true false o i a b c e = absurd (no c)
+js-to true false z o i a b c e = absurd (no b)
+js-to false y z o i a b c e = absurd (no a)
 
-js-one : (i j : Js) → body.Js i ≡ body.Js j → i ≡ j
-js-one i j e = cc
-
-pub record EitherBody (v : ScriptState) (x : Sense) (c : Js) : Type 0 where
-  pub stands : script_body (either_slash_script v) ≡ Some (body.Js (either_js c))
+pub record EitherScript (v : ScriptState) (x : Sense) (c : Js) : Type 0 where
+  pub stands : script_js (either_slash_script v) ≡ Some (either_js c)
   pub senses : js_senses c ≡ script_senses x
   pub keeps : KeepsJs c
 
-pub either-body : (v : ScriptState) (x : Sense) (c : Js) → script_body v ≡ Some (body.Js c) → sense_at_text v.at ≡ Some x → EitherBody v x c
-either-body v x c e i =
-    let d = body-from (is_trail_of_cut v.trail) (may_begin_text_at v.at v.trail.markup) (is_empty v.literals && is_empty v.held) (spot_at v.at v.trail) (body.Js c) e in
+pub either-script : (v : ScriptState) (x : Sense) (c : Js) → script_js v ≡ Some c → sense_at_text v.at ≡ Some x → EitherScript v x c
+either-script v x c e i =
+    let d = js-from (is_trail_of_cut v.trail) (may_begin_text_at v.at v.trail.markup) (is_empty v.literals && is_empty v.held) (spot_at v.at v.trail) c e in
     let p = d.3.0 in
     let s = either-spot v.at v.trail x p d.1 d.3.1 i in
-    subst (EitherBody v x) (js-one (script_place p) c d.3.2)
+    subst (EitherScript v x) d.3.2
     (record {
-      stands = body-to (is_trail_of_cut v.trail) (may_begin_text_at (with_either_slash v.at) (either_slash_markup v.at v.trail.markup))
+      stands = js-to (is_trail_of_cut v.trail) (may_begin_text_at (with_either_slash v.at) (either_slash_markup v.at v.trail.markup))
           (is_empty v.literals && is_empty v.held) (spot_at (with_either_slash v.at) (either_slash_trail v.at v.trail)) (either_js (script_place p)) d.0 s.0 d.2 s.1;
       senses = s.2;
       keeps = s.3;
@@ -256,32 +256,25 @@ quotes-begun DoubleQuoted = tt
 quotes-begun SingleQuoted = tt
 quotes-begun Unquoted = (refl, refl)
 
-script-own : (v : ScriptState) (b : Option Body) → script_body v ≡ b → (u : Body) → b ≡ Some u → (c : Js) × (u ≡ body.Js c)
-script-own v b e u f =
-    let d = body-from (is_trail_of_cut v.trail) (may_begin_text_at v.at v.trail.markup) (is_empty v.literals && is_empty v.held) (spot_at v.at v.trail) u (e ∙ f) in
-    (script_place d.3.0, sym d.3.2)
-
 abbrev value_at : Quoting → Tag → Js → ValuePlace
 value_at q t c = record { tag = t.tag; typed = t.typed; quotes = quotes_at q; body = body.Js c }
 
-spot-script : (q : Quoting) (t : Tag) (v : ScriptState) (a : Place) (b : Option Body) → script_body v ≡ b → value_spot t (quotes_at q) b ≡ Some a
-    → (c : Js) × (script_body v ≡ Some (body.Js c)) × (place.Value (value_at q t c) ≡ a)
+spot-script : (q : Quoting) (t : Tag) (v : ScriptState) (a : Place) (o : Option Js) → script_js v ≡ o → value_spot t (quotes_at q) (option_map body.Js o) ≡ Some a
+    → (c : Js) × (script_js v ≡ Some c) × (place.Value (value_at q t c) ≡ a)
 spot-script q t v a None e h = absurd (none_some a h)
-spot-script q t v a (Some u) e h =
-    let d = script-own v (Some u) e u refl in
-    (d.0, e ∙ ap Some d.1, ap (λ (x : Body). place.Value (record { tag = t.tag; typed = t.typed; quotes = quotes_at q; body = x })) (sym d.1) ∙ one_value _ a h)
+spot-script q t v a (Some c) e h = (c, e, one_value (place.Value (value_at q t c)) a h)
 
 either-at : (p : Place) (q : Quoting) (t : Tag) (v : ScriptState) (x : Sense) → IsIn p (AttributeValue q t (ValueOf (OfScript v)) Closed) → sense_at_text v.at ≡ Some x
     → EitherPath p (AttributeValue q t (ValueOf (OfScript v)) Closed) x
 either-at p q t v x i e =
-    let o = spot-script q t v i.own (script_body v) refl i.stands in
+    let o = spot-script q t v i.own (script_js v) refl i.stands in
     let c = o.0 in
     let u = value_at q t c in
     let h : Below (place.Value u) p = subst (λ (a : Place). Below a p) (sym o.2) i.below in
     let w = above-value u p h in
     let l = below-value u w.0 (subst (Below (place.Value u)) w.1 h) in
     let j = above-js c w.0.body l.body in
-    let d = either-body v x c o.1 e in
+    let d = either-script v x c o.1 e in
     record {
       own = u;
       mine = c;
@@ -295,10 +288,65 @@ either-at p q t v x i e =
       in_order = js-below c j.0 (subst (λ (z : Body). joined_bodies (body.Js c) z ≡ Some z) j.1 l.body);
       keeps = d.keeps;
       senses = d.senses;
-      stands = ap (value_spot t (quotes_at q)) d.stands;
+      stands = ap (λ (z : Option Js). value_spot t (quotes_at q) (option_map body.Js z)) d.stands;
     }
 
 pub either-path : (p : Place) (q : Quoting) (t : Tag) (v : ScriptState) (r : Reference) (x : Sense) → IsIn p (AttributeValue q t (ValueOf (OfScript v)) r)
     → sense_at_text v.at ≡ Some x → EitherPath p (AttributeValue q t (ValueOf (OfScript v)) r) x
 either-path p q t v Closed x i e = either-at p q t v x i e
 either-path p q t v (Open f bytes) x i e = absurd (none_some i.own i.stands)
+
+-- In the element, likewise.
+pub record EitherElement (p : Place) (s : LexState ValueState) (x : Sense) : Type 0 where
+  pub mine : Js
+  pub all : Js
+  pub is : p ≡ place.Script all
+  pub in_order : joined_js mine all ≡ Some all
+  pub keeps : KeepsJs mine
+  pub senses : js_senses mine ≡ script_senses x
+  pub stands : placed (either_slash s) ≡ Some (place.Script (either_js mine))
+
+pub above-script : (c : Js) (p : Place) → Below (place.Script c) p → (d : Js) × (p ≡ place.Script d)
+above-script c (place.Script d) h = (d, refl)
+above-script c place.Text h = absurd (none_some place.Text h)
+above-script c place.Doctype h = absurd (none_some place.Doctype h)
+above-script c (place.Comment x) h = absurd (none_some (place.Comment x) h)
+above-script c (place.Rcdata x) h = absurd (none_some (place.Rcdata x) h)
+above-script c (place.Tag x) h = absurd (none_some (place.Tag x) h)
+above-script c (place.Value x) h = absurd (none_some (place.Value x) h)
+above-script c (place.Style x) h = absurd (none_some (place.Style x) h)
+above-script c (place.Block x) h = absurd (none_some (place.Block x) h)
+
+element-script : (v : ScriptState) (a : Place) (o : Option Js) → script_js v ≡ o → option_map place.Script o ≡ Some a
+    → (c : Js) × (script_js v ≡ Some c) × (place.Script c ≡ a)
+element-script v a None e h = absurd (none_some a h)
+element-script v a (Some c) e h = (c, e, one_value (place.Script c) a h)
+
+either-in-element : (p : Place) (v : ScriptState) (x : Sense) → IsIn p (InContent element.Script (InLanguage (OfScript v)) Nothing) → sense_at_text v.at ≡ Some x
+    → EitherElement p (InContent element.Script (InLanguage (OfScript v)) Nothing) x
+either-in-element p v x i e =
+    let o = element-script v i.own (script_js v) refl i.stands in
+    let c = o.0 in
+    let h : Below (place.Script c) p = subst (λ (a : Place). Below a p) (sym o.2) i.below in
+    let w = above-script c p h in
+    let d = either-script v x c o.1 e in
+    record {
+      mine = c;
+      all = w.0;
+      is = w.1;
+      in_order = js-below-place c w.0 (subst (Below (place.Script c)) w.1 h);
+      keeps = d.keeps;
+      senses = d.senses;
+      stands = ap (option_map place.Script) d.stands;
+    }
+
+pub either-element : (p : Place) (e : Element) (v : ScriptState) (h : Pending) (x : Sense) → IsIn p (InContent e (InLanguage (OfScript v)) h) → sense_at_text v.at ≡ Some x
+    → EitherElement p (InContent e (InLanguage (OfScript v)) h) x
+either-element p element.Script v Nothing x i e = either-in-element p v x i e
+either-element p _ v Nothing x i e = absurd (none_some i.own i.stands)
+either-element p d v LessAtCut x i e = absurd (none_some i.own i.stands)
+either-element p d v PendingLess x i e = absurd (none_some i.own i.stands)
+either-element p d v (PendingName letters) x i e = absurd (none_some i.own i.stands)
+either-element p d v PendingBang x i e = absurd (none_some i.own i.stands)
+either-element p d v PendingBangDash x i e = absurd (none_some i.own i.stands)
+either-element p d v (PendingOpening letters) x i e = absurd (none_some i.own i.stands)

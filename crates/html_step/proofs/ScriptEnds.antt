@@ -3,13 +3,13 @@
 use Rattle.std.proofs.Common.{◌≡◌, ℕ, ◌+◌, ◌-◌, Bool, true, false, ◌&&◌, List, [], ◌∷◌, ◌++◌, length, Option, Some, None, if◌then◌else◌, refl, sym, ap, ◌∙◌, subst}
 use Rattle.std.specs.Prelude.{encode_utf8}
 use Rattle.js_lexer.specs.Refusals.{Cause}
-use Rattle.js_step.specs.ScriptScans.{ScriptScan, script_scan_cut_error, script_scan_end_error, script_scan_error, script_scan_start}
+use Rattle.js_step.specs.ScriptScans.{ScriptScan, script_scan_cut_error, script_scan_end_error, script_scan_start}
 use Rattle.js_step.proofs.ValidScripts.{empty-texts-keep-scripts}
 use Rattle.place_core.specs.page.Classes.{Class, White, QuotationMark, Apostrophe, GreaterThan, is_equals_sign}
 use Rattle.place_core.specs.page.Html.{ends_value}
 use Rattle.place_core.specs.page.References.{Form, Reference, Closed, Open, ReferenceStep, Grows, Closes, Breaks, as_it_stands, flushed, meaning, plain_bytes, settled, turn}
-use Rattle.place_core.specs.page.Tags.{feed_bytes, script_code, DoubleQuoted, SingleQuoted, Unquoted}
-use Rattle.place_core.specs.place.Errors.{FedByte, PathCause, PathRefusal, at_hand, at_value_end, cut_places, deep_at, deep_place, fed_error, fed_places, first_byte_error, first_path_refusal, first_places, flushed_error, flushed_places, is_told_at_node_end, is_unknown_name, is_written, language_error, name_error, place_back, placed_bytes, places_with, script_ending_refusal, script_fed, script_fed_refusal, script_places_refusal, script_refusal_at, turned_error, turned_places, value_end_cause, value_error}
+use Rattle.place_core.specs.page.Tags.{feed_bytes, DoubleQuoted, SingleQuoted, Unquoted}
+use Rattle.place_core.specs.place.Errors.{FedByte, PathRefusal, at_hand, at_value_end, cut_places, deep_at, deep_place, fed_error, fed_places, first_byte_error, first_path_refusal, first_places, flushed_error, flushed_places, is_told_at_node_end, is_unknown_name, is_written, language_error, name_error, place_back, placed_bytes, places_with, script_ending_refusal, script_fed, script_fed_refusal, script_places_refusal, script_refusal_at, turned_error, turned_places, value_end_cause, value_error}
 use Rattle.place_core.specs.place.Places.{joined_quotes}
 use Rattle.place_core.specs.declared.body.Body.{Body}
 use Rattle.place_core.specs.declared.body.Body.TheVariants as body
@@ -19,11 +19,9 @@ use Rattle.place_core.specs.declared.quotes.Quotes.{Quotes}
 use Rattle.place_core.specs.declared.quotes.Quotes.TheVariants as quotes
 use Rattle.place_core.specs.declared.value_place.ValuePlace.{ValuePlace}
 use Rattle.place_core.proofs.Semilattices.{none_some}
-use Rattle.html_scan.specs.Scans.{Scan, At, AfterLess, AfterLessSolidus, InDeclaration, InTagName, InAttributeName, InUrl, InStyle, InScript, InStyleElement, InCommentEnd, InContentEnd, BeforeType, InType, all_scripts, begun_script_deep, begun_script_refusal, body_cause, ends_quoted, quoted_error, quoted_places, scan_cut_error, scan_deep_behind, scan_error, scan_script_cut_refusal, scan_script_refusal, script_fed_byte, script_feeding, script_step_deep, script_step_refusal, written_error}
-use Rattle.html_scan.proofs.UrlsFed.{feed_more}
+use Rattle.html_scan.specs.Scans.{Scan, At, AfterLess, AfterLessSolidus, InDeclaration, InTagName, InAttributeName, InUrl, InStyle, InScript, InScriptElement, InStyleElement, InCommentEnd, InContentEnd, BeforeType, InType, all_scripts, begun_script_deep, begun_script_refusal, body_cause, ends_quoted, quoted_error, quoted_places, scan_cut_error, scan_deep_behind, scan_error, scan_script_cut_refusal, scan_script_refusal, script_fed_byte, script_feeding, script_step_deep, script_step_refusal, written_error}
 use Rattle.html_step.specs.Origins.{bytes_of_places}
 use Rattle.html_step.proofs.FedAlike.{fed-beside, first-caused}
-use Rattle.html_step.proofs.PathScans.{none-at-hand}
 use Rattle.html_step.proofs.PlaceParts.{Under}
 use Rattle.html_step.proofs.ScanOrder.{HasBegun, ScanBelow, ScanValid, ScriptValueBelow, bare-parts, script_cut}
 use Rattle.html_step.proofs.ScriptFrom.{TakesScript, script-fed-taken}
@@ -226,6 +224,7 @@ script-takes (InAttributeName x y z) c b h e k places = (refl, refl)
 script-takes (InCommentEnd x) c b h e k places = (refl, refl)
 script-takes (InContentEnd x y) c b h e k places = (refl, refl)
 script-takes (InStyleElement x y) c b h e k places = (refl, refl)
+script-takes (InScriptElement x y) c b h e k places = (refl, refl)
 script-takes (BeforeType x) c b h e k places = (refl, refl)
 script-takes (InType x y z w) c b h e k places = (refl, refl)
 script-takes (InUrl x y z) c b h e k places = (refl, refl)
@@ -243,6 +242,7 @@ taken-script (InAttributeName x y z) c b k places h d = refl
 taken-script (InCommentEnd x) c b k places h d = refl
 taken-script (InContentEnd x y) c b k places h d = refl
 taken-script (InStyleElement x y) c b k places h d = refl
+taken-script (InScriptElement x y) c b k places h d = refl
 taken-script (BeforeType x) c b k places h d = refl
 taken-script (InType x y z w) c b k places h d = refl
 taken-script (InUrl x y z) c b k places h d = refl
@@ -295,6 +295,7 @@ script-end-grows (InScript v n r) (InAttributeName x y z) c b i l h e = absurd l
 script-end-grows (InScript v n r) (InCommentEnd x) c b i l h e = absurd l
 script-end-grows (InScript v n r) (InContentEnd x y) c b i l h e = absurd l
 script-end-grows (InScript v n r) (InStyleElement x y) c b i l h e = absurd l
+script-end-grows (InScript v n r) (InScriptElement x y) c b i l h e = absurd l
 script-end-grows (InScript v n r) (BeforeType x) c b i l h e = absurd l
 script-end-grows (InScript v n r) (InType x y z w) c b i l h e = absurd l
 script-end-grows (InScript v n r) (InUrl x y z) c b i l h e = absurd l
@@ -308,6 +309,7 @@ script-end-grows (InAttributeName x y z) g c b i l h e = refl
 script-end-grows (InCommentEnd x) g c b i l h e = refl
 script-end-grows (InContentEnd x y) g c b i l h e = refl
 script-end-grows (InStyleElement x y) g c b i l h e = refl
+script-end-grows (InScriptElement x y) g c b i l h e = refl
 script-end-grows (BeforeType x) g c b i l h e = refl
 script-end-grows (InType x y z w) g c b i l h e = refl
 script-end-grows (InUrl x y z) g c b i l h e = refl
@@ -348,6 +350,7 @@ script-cut-takes (InAttributeName x y z) h e k places = refl
 script-cut-takes (InCommentEnd x) h e k places = refl
 script-cut-takes (InContentEnd x y) h e k places = refl
 script-cut-takes (InStyleElement x y) h e k places = refl
+script-cut-takes (InScriptElement x y) h e k places = refl
 script-cut-takes (BeforeType x) h e k places = refl
 script-cut-takes (InType x y z w) h e k places = refl
 script-cut-takes (InUrl x y z) h e k places = refl
@@ -364,6 +367,7 @@ taken-script-cut (InAttributeName x y z) k places h = refl
 taken-script-cut (InCommentEnd x) k places h = refl
 taken-script-cut (InContentEnd x y) k places h = refl
 taken-script-cut (InStyleElement x y) k places h = refl
+taken-script-cut (InScriptElement x y) k places h = refl
 taken-script-cut (BeforeType x) k places h = refl
 taken-script-cut (InType x y z w) k places h = refl
 taken-script-cut (InUrl x y z) k places h = refl

@@ -1,8 +1,7 @@
 -- Of what a script refuses and what else is refused the one that stands first.
-use Rattle.std.proofs.Common.{◌≡◌, ◌<◌, ◌≤◌, ◌-◌, ℕ, nat_lt, Bool, true, false, Option, Some, None, Result, Err, if◌then◌else◌, refl, sym, ap, arith}
+use Rattle.std.proofs.Common.{◌<◌, ◌≤◌, ◌-◌, ℕ, Bool, Some, Err, if◌then◌else◌, sym, ap, arith}
 use Rattle.std.proofs.lemmas.Bool.{le-ltb, lt-ltb}
-use Rattle.place_core.specs.place.Errors.{PathCause, PathRefusal, before_cause}
-use Rattle.place_core.specs.declared.place.Place.{Place}
+use Rattle.place_core.specs.place.Errors.{PathCause, PathRefusal}
 use Rattle.html_scan.specs.ScriptPlaces.{cause_stands_at}
 use Rattle.html_step.specs.StepViews.{StandsFirst}
 

@@ -1,6 +1,6 @@
 -- Each member of a scan state of a script behind bytes comes from one member before them, and so does each of the place at the end of a text.
-use Rattle.std.proofs.Common.{◌≡◌, ℕ, ◌-◌, Bool, true, false, ◌||◌, List, [], ◌∷◌, Option, Some, None, if◌then◌else◌, refl, sym, ap, ◌∙◌, subst}
-use Rattle.js_lexer.specs.States.{At, Code, Word, Number, Pluses, Minuses, Slash, LineComment, BlockComment, InString, InRegexp, InTemplate, TooDeep}
+use Rattle.std.proofs.Common.{◌≡◌, ℕ, ◌-◌, Bool, true, false, ◌||◌, List, [], ◌∷◌, None, if◌then◌else◌, refl, sym, ap, ◌∙◌, subst}
+use Rattle.js_lexer.specs.States.{At, Slash, InString, InRegexp}
 use Rattle.js_step.specs.ScriptOrigins.{script_set_at, script_set_has, script_but_slash, script_senses_at, script_tails_at}
 use Rattle.js_step.specs.ScriptScans.{ScriptScan, script_scan_cut_error, script_scan_error, script_scan_next, script_scan_place}
 use Rattle.js_step.specs.ScriptValidity.{IsScriptScan}
@@ -22,7 +22,7 @@ use Rattle.html_scan.specs.Scans.{script_fed_byte, script_feeding}
 use Rattle.js_step.specs.ScriptEvidence.{script_scan_has}
 use Rattle.html_step.specs.Origins.{in_value_origin, script_origin, typed_origin}
 use Rattle.html_step.proofs.FedAlike.{cause-none, first-caused}
-use Rattle.html_step.proofs.FromParts.{or-behind, or-either, or-first}
+use Rattle.html_step.proofs.FromParts.{or-behind, or-either}
 use Rattle.html_step.proofs.ScriptOrder.{ScriptUnder, under_same, under_below, script-grows, script-none-refused}
 
 no : false ≡ true → ⊥
@@ -155,15 +155,15 @@ to-kept n b y h = kept-set (script_scan_next n b) y ∙ h
 from-kept : (n : ScriptScan) (b : ℕ) (y : Member) → script_set_has (script_fed_byte n b) y ≡ true → script_set_has (script_scan_next n b) y ≡ true
 from-kept n b y h = sym (kept-set (script_scan_next n b) y) ∙ h
 
-byte-itself : (n : ScriptScan) (b : ℕ) (y : Member) → IsScriptScan n → script_scan_error false n b ≡ None → script_set_has (script_fed_byte n b) y ≡ true
+byte-itself : (element : Bool) (n : ScriptScan) (b : ℕ) (y : Member) → IsScriptScan n → script_scan_error element n b ≡ None → script_set_has (script_fed_byte n b) y ≡ true
     → script_set_has n y ≡ true → (k : ScriptScan) → ScriptUnder k n → script_set_has k y ≡ true → script_set_has (script_fed_byte k b) y ≡ true
-byte-itself n b y v e h i k (under_same d) o = subst (λ (z : ScriptScan). script_set_has (script_fed_byte z b) y ≡ true) (sym d) h
-byte-itself n b y v e h i k (under_below l) o = to-kept k b y (scripts-come-from.itself false n k b y v e (from-kept n b y h) i l o)
+byte-itself element n b y v e h i k (under_same d) o = subst (λ (z : ScriptScan). script_set_has (script_fed_byte z b) y ≡ true) (sym d) h
+byte-itself element n b y v e h i k (under_below l) o = to-kept k b y (scripts-come-from.itself element n k b y v e (from-kept n b y h) i l o)
 
-byte-whole : (n : ScriptScan) (b : ℕ) (y : Member) → IsScriptScan n → script_scan_error false n b ≡ None → script_set_has (script_fed_byte n b) y ≡ true
+byte-whole : (element : Bool) (n : ScriptScan) (b : ℕ) (y : Member) → IsScriptScan n → script_scan_error element n b ≡ None → script_set_has (script_fed_byte n b) y ≡ true
     → script_set_has n y ≡ false → (k : ScriptScan) → ScriptUnder k n → script_set_has (script_fed_byte k b) y ≡ true
-byte-whole n b y v e h i k (under_same d) = subst (λ (z : ScriptScan). script_set_has (script_fed_byte z b) y ≡ true) (sym d) h
-byte-whole n b y v e h i k (under_below l) = to-kept k b y (scripts-come-from.whole false n k b y v e (from-kept n b y h) i l)
+byte-whole element n b y v e h i k (under_same d) = subst (λ (z : ScriptScan). script_set_has (script_fed_byte z b) y ≡ true) (sym d) h
+byte-whole element n b y v e h i k (under_below l) = to-kept k b y (scripts-come-from.whole element n k b y v e (from-kept n b y h) i l)
 
 pub whole-no-set : (n : ScriptScan) (y : Member) → is_whole y ≡ true → script_set_has n y ≡ true → ⊥
 whole-no-set n member.Whole h k = set-is n member.Whole k
@@ -178,10 +178,10 @@ pub data SetFrom (n : ScriptScan) (step : ScriptScan → ScriptScan) (y : Member
       → SetFrom n step y
   set_whole : script_set_has n y ≡ false → ((k : ScriptScan) → ScriptUnder k n → script_set_has (step k) y ≡ true) → SetFrom n step y
 
-byte-set : (n : ScriptScan) (b : ℕ) (y : Member) (x : Bool) → script_set_has n y ≡ x → IsScriptScan n → script_scan_error false n b ≡ None
+byte-set : (element : Bool) (n : ScriptScan) (b : ℕ) (y : Member) (x : Bool) → script_set_has n y ≡ x → IsScriptScan n → script_scan_error element n b ≡ None
     → script_set_has (script_fed_byte n b) y ≡ true → SetFrom n (λ k. script_fed_byte k b) y
-byte-set n b y true i v e h = set_itself i (byte-itself n b y v e h i)
-byte-set n b y false i v e h = set_whole i (byte-whole n b y v e h i)
+byte-set element n b y true i v e h = set_itself i (byte-itself element n b y v e h i)
+byte-set element n b y false i v e h = set_whole i (byte-whole element n b y v e h i)
 
 -- by the origin
 set-origin : (n : ScriptScan) (step : ScriptScan → ScriptScan) (y : Member) → IsScriptMember y → SetFrom n step y → ScriptFrom n step y (script_origin n y)
@@ -192,13 +192,21 @@ set-origin n step y m (set_whole i f) =
     subst (ScriptFrom n step y) (sym (other-origin n y i ∙ member-whole y m))
     (record { there = refl; leads = λ k l o. has-script-set (step k) y (f k l) })
 
+pub byte-from-in : (element : Bool) (n : ScriptScan) (b : ℕ) (y : Member) → IsScriptScan n → script_scan_error element n b ≡ None → script_set_has (script_fed_byte n b) y ≡ true
+    → ScriptFrom n (λ k. script_fed_byte k b) y (script_origin n y)
+byte-from-in element n b y v e h = set-origin n (λ k. script_fed_byte k b) y (set-is (script_fed_byte n b) y h) (byte-set element n b y (script_set_has n y) refl v e h)
+
+-- in a value
 pub byte-from : (n : ScriptScan) (b : ℕ) (y : Member) → IsScriptScan n → script_scan_error false n b ≡ None → script_set_has (script_fed_byte n b) y ≡ true
     → ScriptFrom n (λ k. script_fed_byte k b) y (script_origin n y)
-byte-from n b y v e h = set-origin n (λ k. script_fed_byte k b) y (set-is (script_fed_byte n b) y h) (byte-set n b y (script_set_has n y) refl v e h)
+byte-from n b y v e h = byte-from-in false n b y v e h
+
+abbrev pub TakesScriptIn : (element : Bool) → List ℕ → ScriptScan → Type 0
+TakesScriptIn element [] n = Unit {0}
+TakesScriptIn element (b ∷ bs) n = (script_scan_error element n b ≡ None) × TakesScriptIn element bs (script_fed_byte n b)
 
 abbrev pub TakesScript : List ℕ → ScriptScan → Type 0
-TakesScript [] n = Unit {0}
-TakesScript (b ∷ bs) n = (script_scan_error false n b ≡ None) × TakesScript bs (script_fed_byte n b)
+TakesScript bytes n = TakesScriptIn false bytes n
 
 pub script-fed-taken : (bytes : List ℕ) (n : ScriptScan) (written : Bool) (back : ℕ) → fed_error script_feeding n bytes written back ≡ None → TakesScript bytes n
 script-fed-taken [] n written back e = tt
@@ -207,38 +215,46 @@ script-fed-taken (b ∷ bs) n written back e =
     let p = first-caused (cause_back back (script_feeding.refuses n b)) (fed_error script_feeding (script_fed_byte n b) bs written later) e in
     (script-none-refused n b (cause-none back (script_feeding.refuses n b) p.0), script-fed-taken bs (script_fed_byte n b) written later p.1)
 
-set-more : (n : ScriptScan) (b : ℕ) (bs : List ℕ) (y : Member) → IsScriptScan n → script_scan_error false n b ≡ None
+set-more : (element : Bool) (n : ScriptScan) (b : ℕ) (bs : List ℕ) (y : Member) → IsScriptScan n → script_scan_error element n b ≡ None
     → SetFrom (script_fed_byte n b) (λ k. feed_bytes script_feeding k bs) y → SetFrom n (λ k. script_fed_byte k b) y
     → SetFrom n (λ k. feed_bytes script_feeding k (b ∷ bs)) y
-set-more n b bs y v e (set_itself i f) (set_itself j g) =
-    set_itself j (λ k l o. f (script_fed_byte k b) ((script-grows k n l).next b e) (g k l o))
-set-more n b bs y v e (set_itself i f) (set_whole j g) =
-    set_whole j (λ k l. f (script_fed_byte k b) ((script-grows k n l).next b e) (g k l))
-set-more n b bs y v e (set_whole i f) (set_itself j g) = set_itself j (λ k l o. f (script_fed_byte k b) ((script-grows k n l).next b e))
-set-more n b bs y v e (set_whole i f) (set_whole j g) = set_whole j (λ k l. f (script_fed_byte k b) ((script-grows k n l).next b e))
+set-more element n b bs y v e (set_itself i f) (set_itself j g) =
+    set_itself j (λ k l o. f (script_fed_byte k b) ((script-grows k n l).next element b e) (g k l o))
+set-more element n b bs y v e (set_itself i f) (set_whole j g) =
+    set_whole j (λ k l. f (script_fed_byte k b) ((script-grows k n l).next element b e) (g k l))
+set-more element n b bs y v e (set_whole i f) (set_itself j g) = set_itself j (λ k l o. f (script_fed_byte k b) ((script-grows k n l).next element b e))
+set-more element n b bs y v e (set_whole i f) (set_whole j g) = set_whole j (λ k l. f (script_fed_byte k b) ((script-grows k n l).next element b e))
 
-set-later : (n : ScriptScan) (b : ℕ) (bs : List ℕ) (y : Member) (x : Bool) → script_set_has n y ≡ x → script_scan_error false n b ≡ None
+set-later : (element : Bool) (n : ScriptScan) (b : ℕ) (bs : List ℕ) (y : Member) (x : Bool) → script_set_has n y ≡ x → script_scan_error element n b ≡ None
     → ((k : ScriptScan) → ScriptUnder k (script_fed_byte n b) → script_set_has (feed_bytes script_feeding k bs) y ≡ true)
     → SetFrom n (λ k. feed_bytes script_feeding k (b ∷ bs)) y
-set-later n b bs y true i e f = set_itself i (λ k l o. f (script_fed_byte k b) ((script-grows k n l).next b e))
-set-later n b bs y false i e f = set_whole i (λ k l. f (script_fed_byte k b) ((script-grows k n l).next b e))
+set-later element n b bs y true i e f = set_itself i (λ k l o. f (script_fed_byte k b) ((script-grows k n l).next element b e))
+set-later element n b bs y false i e f = set_whole i (λ k l. f (script_fed_byte k b) ((script-grows k n l).next element b e))
 
-set-step : (n : ScriptScan) (b : ℕ) (bs : List ℕ) (y : Member) → IsScriptScan n → script_scan_error false n b ≡ None
+set-step : (element : Bool) (n : ScriptScan) (b : ℕ) (bs : List ℕ) (y : Member) → IsScriptScan n → script_scan_error element n b ≡ None
     → SetFrom (script_fed_byte n b) (λ k. feed_bytes script_feeding k bs) y → SetFrom n (λ k. feed_bytes script_feeding k (b ∷ bs)) y
-set-step n b bs y v e (set_itself i f) =
-    set-more n b bs y v e (set_itself i f) (byte-set n b y (script_set_has n y) refl v e i)
-set-step n b bs y v e (set_whole i f) = set-later n b bs y (script_set_has n y) refl e f
+set-step element n b bs y v e (set_itself i f) =
+    set-more element n b bs y v e (set_itself i f) (byte-set element n b y (script_set_has n y) refl v e i)
+set-step element n b bs y v e (set_whole i f) = set-later element n b bs y (script_set_has n y) refl e f
+
+pub set-fed-in : (element : Bool) (bytes : List ℕ) (n : ScriptScan) (y : Member) → IsScriptScan n → TakesScriptIn element bytes n → script_set_has (feed_bytes script_feeding n bytes) y ≡ true
+    → SetFrom n (λ k. feed_bytes script_feeding k bytes) y
+set-fed-in element [] n y v a h = set_itself h (λ k l o. o)
+set-fed-in element (b ∷ bs) n y v a h =
+    set-step element n b bs y v a.0 (set-fed-in element bs (script_fed_byte n b) y (scripts-stay-valid.next n b v) a.1 h)
+
+pub script-fed-from-in : (element : Bool) (bytes : List ℕ) (n : ScriptScan) (y : Member) → IsScriptScan n → TakesScriptIn element bytes n
+    → script_set_has (feed_bytes script_feeding n bytes) y ≡ true → ScriptFrom n (λ k. feed_bytes script_feeding k bytes) y (script_origin n y)
+script-fed-from-in element bytes n y v a h =
+    set-origin n (λ k. feed_bytes script_feeding k bytes) y (set-is (feed_bytes script_feeding n bytes) y h) (set-fed-in element bytes n y v a h)
 
 pub set-fed : (bytes : List ℕ) (n : ScriptScan) (y : Member) → IsScriptScan n → TakesScript bytes n → script_set_has (feed_bytes script_feeding n bytes) y ≡ true
     → SetFrom n (λ k. feed_bytes script_feeding k bytes) y
-set-fed [] n y v a h = set_itself h (λ k l o. o)
-set-fed (b ∷ bs) n y v a h =
-    set-step n b bs y v a.0 (set-fed bs (script_fed_byte n b) y (scripts-stay-valid.next n b v) a.1 h)
+set-fed bytes n y v a h = set-fed-in false bytes n y v a h
 
 pub script-fed-from : (bytes : List ℕ) (n : ScriptScan) (y : Member) → IsScriptScan n → TakesScript bytes n
     → script_set_has (feed_bytes script_feeding n bytes) y ≡ true → ScriptFrom n (λ k. feed_bytes script_feeding k bytes) y (script_origin n y)
-script-fed-from bytes n y v a h =
-    set-origin n (λ k. feed_bytes script_feeding k bytes) y (set-is (feed_bytes script_feeding n bytes) y h) (set-fed bytes n y v a h)
+script-fed-from bytes n y v a h = script-fed-from-in false bytes n y v a h
 
 -- The end of a text.
 pub data PlaceFrom (n : ScriptScan) (bytes : List ℕ) (y : Member) : Type 0 where
@@ -248,9 +264,9 @@ pub data PlaceFrom (n : ScriptScan) (bytes : List ℕ) (y : Member) : Type 0 whe
   place_whole : script_set_has n y ≡ false
       → ((k : ScriptScan) → ScriptUnder k n → js_has (script_scan_place (feed_bytes script_feeding k bytes)) y ≡ true) → PlaceFrom n bytes y
 
-fed-under : (bytes : List ℕ) (n k : ScriptScan) → TakesScript bytes n → ScriptUnder k n → ScriptUnder (feed_bytes script_feeding k bytes) (feed_bytes script_feeding n bytes)
-fed-under [] n k a l = l
-fed-under (b ∷ bs) n k a l = fed-under bs (script_fed_byte n b) (script_fed_byte k b) a.1 ((script-grows k n l).next b a.0)
+fed-under : (element : Bool) (bytes : List ℕ) (n k : ScriptScan) → TakesScriptIn element bytes n → ScriptUnder k n → ScriptUnder (feed_bytes script_feeding k bytes) (feed_bytes script_feeding n bytes)
+fed-under element [] n k a l = l
+fed-under element (b ∷ bs) n k a l = fed-under element bs (script_fed_byte n b) (script_fed_byte k b) a.1 ((script-grows k n l).next element b a.0)
 
 end-set-itself : (n : ScriptScan) (y : Member) → IsScriptScan n → script_scan_cut_error n ≡ None → js_has (script_scan_place n) y ≡ true
     → script_set_has n y ≡ true → (k : ScriptScan) → ScriptUnder k n → script_set_has k y ≡ true → js_has (script_scan_place k) y ≡ true
@@ -262,29 +278,34 @@ end-set-whole : (n : ScriptScan) (y : Member) → IsScriptScan n → script_scan
 end-set-whole n y v e h i k (under_same d) = subst (λ (z : ScriptScan). js_has (script_scan_place z) y ≡ true) (sym d) h
 end-set-whole n y v e h i k (under_below l) = scripts-come-from.end_whole n k y v e h i l
 
-end-later : (bytes : List ℕ) (n : ScriptScan) (y : Member) (x : Bool) → script_set_has n y ≡ x → TakesScript bytes n
+end-later : (element : Bool) (bytes : List ℕ) (n : ScriptScan) (y : Member) (x : Bool) → script_set_has n y ≡ x → TakesScriptIn element bytes n
     → ((k : ScriptScan) → ScriptUnder k (feed_bytes script_feeding n bytes) → js_has (script_scan_place k) y ≡ true) → PlaceFrom n bytes y
-end-later bytes n y true i a f = place_itself i (λ k l o. f (feed_bytes script_feeding k bytes) (fed-under bytes n k a l))
-end-later bytes n y false i a f = place_whole i (λ k l. f (feed_bytes script_feeding k bytes) (fed-under bytes n k a l))
+end-later element bytes n y true i a f = place_itself i (λ k l o. f (feed_bytes script_feeding k bytes) (fed-under element bytes n k a l))
+end-later element bytes n y false i a f = place_whole i (λ k l. f (feed_bytes script_feeding k bytes) (fed-under element bytes n k a l))
 
-end-more : (bytes : List ℕ) (n : ScriptScan) (y : Member) → TakesScript bytes n
+end-more : (element : Bool) (bytes : List ℕ) (n : ScriptScan) (y : Member) → TakesScriptIn element bytes n
     → ((k : ScriptScan) → ScriptUnder k (feed_bytes script_feeding n bytes) → script_set_has k y ≡ true → js_has (script_scan_place k) y ≡ true)
     → SetFrom n (λ k. feed_bytes script_feeding k bytes) y → PlaceFrom n bytes y
-end-more bytes n y a f (set_itself i g) = place_itself i (λ k l o. f (feed_bytes script_feeding k bytes) (fed-under bytes n k a l) (g k l o))
-end-more bytes n y a f (set_whole i g) = place_whole i (λ k l. f (feed_bytes script_feeding k bytes) (fed-under bytes n k a l) (g k l))
+end-more element bytes n y a f (set_itself i g) = place_itself i (λ k l o. f (feed_bytes script_feeding k bytes) (fed-under element bytes n k a l) (g k l o))
+end-more element bytes n y a f (set_whole i g) = place_whole i (λ k l. f (feed_bytes script_feeding k bytes) (fed-under element bytes n k a l) (g k l))
 
-end-by : (bytes : List ℕ) (n : ScriptScan) (y : Member) (x : Bool) → script_set_has (feed_bytes script_feeding n bytes) y ≡ x → IsScriptScan n
-    → IsScriptScan (feed_bytes script_feeding n bytes) → TakesScript bytes n → script_scan_cut_error (feed_bytes script_feeding n bytes) ≡ None
+end-by : (element : Bool) (bytes : List ℕ) (n : ScriptScan) (y : Member) (x : Bool) → script_set_has (feed_bytes script_feeding n bytes) y ≡ x → IsScriptScan n
+    → IsScriptScan (feed_bytes script_feeding n bytes) → TakesScriptIn element bytes n → script_scan_cut_error (feed_bytes script_feeding n bytes) ≡ None
     → js_has (script_scan_place (feed_bytes script_feeding n bytes)) y ≡ true → PlaceFrom n bytes y
-end-by bytes n y true i v w a e h =
-    end-more bytes n y a (end-set-itself (feed_bytes script_feeding n bytes) y w e h i) (set-fed bytes n y v a i)
-end-by bytes n y false i v w a e h =
-    end-later bytes n y (script_set_has n y) refl a (end-set-whole (feed_bytes script_feeding n bytes) y w e h i)
+end-by element bytes n y true i v w a e h =
+    end-more element bytes n y a (end-set-itself (feed_bytes script_feeding n bytes) y w e h i) (set-fed-in element bytes n y v a i)
+end-by element bytes n y false i v w a e h =
+    end-later element bytes n y (script_set_has n y) refl a (end-set-whole (feed_bytes script_feeding n bytes) y w e h i)
+
+pub script-end-from-in : (element : Bool) (bytes : List ℕ) (n : ScriptScan) (y : Member) → IsScriptScan n → IsScriptScan (feed_bytes script_feeding n bytes) → TakesScriptIn element bytes n
+    → script_scan_cut_error (feed_bytes script_feeding n bytes) ≡ None → js_has (script_scan_place (feed_bytes script_feeding n bytes)) y ≡ true
+    → PlaceFrom n bytes y
+script-end-from-in element bytes n y v w a e h = end-by element bytes n y (script_set_has (feed_bytes script_feeding n bytes) y) refl v w a e h
 
 pub script-end-from : (bytes : List ℕ) (n : ScriptScan) (y : Member) → IsScriptScan n → IsScriptScan (feed_bytes script_feeding n bytes) → TakesScript bytes n
     → script_scan_cut_error (feed_bytes script_feeding n bytes) ≡ None → js_has (script_scan_place (feed_bytes script_feeding n bytes)) y ≡ true
     → PlaceFrom n bytes y
-script-end-from bytes n y v w a e h = end-by bytes n y (script_set_has (feed_bytes script_feeding n bytes) y) refl v w a e h
+script-end-from bytes n y v w a e h = script-end-from-in false bytes n y v w a e h
 
 pub js-is : (c : Js) (y : Member) → js_has c y ≡ true → IsScriptMember y
 js-is (js.Code s x) y h = or-either (IsScriptMember y) (senses_have s y) (js_tails_have x y) h (λ i. sense-is s y i) (λ i. tail-is x y i)

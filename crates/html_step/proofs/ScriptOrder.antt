@@ -1,5 +1,5 @@
 -- What a script is fed on all paths together: a scan state below one that is accepted is accepted, and comes to one below; and valid ones lead to such.
-use Rattle.std.proofs.Common.{◌≡◌, ℕ, Bool, true, false, List, [], ◌∷◌, Option, Some, None, option_map, ◌⊎◌, inl, inr, refl, sym, ap, ◌∙◌, subst}
+use Rattle.std.proofs.Common.{◌≡◌, ℕ, Bool, false, List, [], ◌∷◌, Option, Some, None, option_map, ◌⊎◌, inl, inr, refl, sym, ap, ◌∙◌, subst}
 use Rattle.js_lexer.specs.Refusals.{Cause}
 use Rattle.js_lexer.specs.States.{At, Code, Word, Number, Pluses, Minuses, Slash, LineComment, BlockComment, InString, InRegexp, InTemplate, TooDeep, ScriptState, Trail}
 use Rattle.js_lexer.specs.declared.sense.Sense.TheVariants as sense
@@ -13,10 +13,8 @@ use Rattle.js_step.proofs.ValidScripts.{scripts-stay-valid}
 use Rattle.place_core.specs.page.Tags.{feed_bytes, script_code}
 use Rattle.place_core.specs.place.LanguagePlaces.{IsValidJs, joined_js}
 use Rattle.place_core.specs.place.Places.{joined_bodies}
-use Rattle.place_core.specs.place.ScriptParts.{script_no_tails, script_senses}
 use Rattle.place_core.specs.declared.body.Body.TheVariants as body
 use Rattle.place_core.specs.declared.js.Js.{Js}
-use Rattle.place_core.specs.declared.js.Js.TheVariants as js
 use Rattle.place_core.specs.declared.senses.Senses.{Senses}
 use Rattle.place_core.proofs.JoinParts.{js_partial}
 use Rattle.place_core.proofs.Semilattices.{no_map, row_value}
@@ -76,16 +74,16 @@ pub data ScriptUnder (n m : ScriptScan) : Type 0 where
 
 -- Below what is accepted it is accepted, and what is behind it is below.
 pub record GrowsUnder (n m : ScriptScan) : Type 0 where
-  pub error : (b : ℕ) → script_scan_error false m b ≡ None → script_scan_error false n b ≡ None
-  pub next : (b : ℕ) → script_scan_error false m b ≡ None → ScriptUnder (script_fed_byte n b) (script_fed_byte m b)
+  pub error : (element : Bool) (b : ℕ) → script_scan_error element m b ≡ None → script_scan_error element n b ≡ None
+  pub next : (element : Bool) (b : ℕ) → script_scan_error element m b ≡ None → ScriptUnder (script_fed_byte n b) (script_fed_byte m b)
   pub cut_error : script_scan_cut_error m ≡ None → script_scan_cut_error n ≡ None
   pub end_error : script_scan_end_error m ≡ None → script_scan_end_error n ≡ None
   pub place : script_scan_cut_error m ≡ None → ScriptBelow (script_scan_place n) (script_scan_place m)
 
 pub script-grows : (n m : ScriptScan) → ScriptUnder n m → GrowsUnder n m
 script-grows n m (under_same e) = record {
-  error = λ b i. ap (λ (k : ScriptScan). script_scan_error false k b) e ∙ i;
-  next = λ b i. under_same (ap (λ (k : ScriptScan). script_fed_byte k b) e);
+  error = λ element b i. ap (λ (k : ScriptScan). script_scan_error element k b) e ∙ i;
+  next = λ element b i. under_same (ap (λ (k : ScriptScan). script_fed_byte k b) e);
   cut_error = λ i. ap script_scan_cut_error e ∙ i;
   end_error = λ i. ap script_scan_end_error e ∙ i;
   place = λ i. subst (λ (k : ScriptScan). ScriptBelow (script_scan_place n) (script_scan_place k)) e (js_partial.same (script_scan_place n));
@@ -93,8 +91,8 @@ script-grows n m (under_same e) = record {
 script-grows n m (under_below h) =
     let g = scripts-grow.scans n m h in
     record {
-      error = λ b i. g.error false b i;
-      next = λ b i. under_below (kept-below (script_scan_next n b) (script_scan_next m b) (g.next false b i));
+      error = λ element b i. g.error element b i;
+      next = λ element b i. under_below (kept-below (script_scan_next n b) (script_scan_next m b) (g.next element b i));
       cut_error = g.cut_error;
       end_error = g.end_error;
       place = g.place;
@@ -105,8 +103,8 @@ script-none-refused m b e = no_map (λ (x : Cause). script_code x.refusal) (scri
 
 pub scripts-beside : FedBeside script_feeding script_feeding ScriptUnder
 scripts-beside = record {
-  takes = λ n m b h e. ap (option_map (λ (x : Cause). script_code x.refusal)) ((script-grows n m h).error b (script-none-refused m b e));
-  goes = λ n m b h e. (script-grows n m h).next b (script-none-refused m b e);
+  takes = λ n m b h e. ap (option_map (λ (x : Cause). script_code x.refusal)) ((script-grows n m h).error false b (script-none-refused m b e));
+  goes = λ n m b h e. (script-grows n m h).next false b (script-none-refused m b e);
   names = λ n m h. refl;
 }
 

@@ -1,30 +1,32 @@
 -- The path of a value that is a script, and the scan state of a script: what is refused of the bytes that they are fed, and where it stands.
-use Rattle.std.proofs.Common.{◌≡◌, ◌<◌, ◌==◌, ℕ, nat_lt, Bool, true, false, not, ◌&&◌, List, [], ◌∷◌, ◌++◌, length, Option, Some, None, option_map, if◌then◌else◌, encode_utf8, refl, sym, ap, ◌∙◌, arith, subst}
+use Rattle.std.proofs.Common.{◌≡◌, ◌<◌, ◌==◌, ℕ, nat_lt, Bool, true, false, not, ◌&&◌, ◌||◌, List, [], ◌∷◌, ◌++◌, length, Option, Some, None, option_map, if◌then◌else◌, encode_utf8, refl, sym, ap, ◌∙◌, arith, subst}
 use Rattle.std.proofs.lemmas.Str.{length-encode, len_utf8_bounds}
 use Rattle.js_lexer.specs.Classes as script
+use Rattle.js_lexer.specs.Elements.{is_code_or_comment, script_may_end}
 use Rattle.js_lexer.specs.Feeding.{feed_script, held_at, read_at, tells_white_apart}
 use Rattle.js_lexer.specs.Holes.{script_after_cut}
 use Rattle.js_lexer.specs.Refusals.{Cause, refuses_end, script_refuses, script_refuses_cut}
 use Rattle.js_lexer.specs.Spots.{Spot, Tail, script_spot, spot_at, spot_before}
-use Rattle.js_lexer.specs.States.{At, Word, ScriptState, script_start}
+use Rattle.js_lexer.specs.States.{At, Code, Word, Number, Pluses, Minuses, Slash, LineComment, BlockComment, InString, InRegexp, InTemplate, TooDeep, ScriptState, script_start}
 use Rattle.js_lexer.specs.Trails.{is_empty}
 use Rattle.js_lexer.specs.WhiteSpace.{BeginsWhite, ClassedByte, IsOther, IsSeparator, IsSpace, PastAscii, classed, classed_as, held_after, held_alone, held_by, held_past_ascii, past_ascii, released, released_alone, released_by, released_past_ascii}
 use Rattle.js_lexer.specs.declared.class.ScriptClass.{ScriptClass}
 use Rattle.js_lexer.specs.declared.class.ScriptClass.TheVariants as class
+use Rattle.js_lexer.specs.declared.sense.Sense.{Sense}
 use Rattle.js_lexer.specs.declared.sense.Sense.TheVariants as sense
 use Rattle.js_step.proofs.KeptAnswers.{kept-words-suffice}
 use Rattle.js_step.specs.KeptWords.{kept_at, kept_scan}
 use Rattle.js_step.proofs.ScriptPaths.{script-paths-are-scanned}
-use Rattle.js_step.specs.ScriptPaths.{script_scanned}
-use Rattle.js_step.specs.ScriptScans.{ScriptScan, script_before_end, script_scan_cut_error, script_scan_end_error, script_scan_error, script_scan_place, script_scan_shown, script_scan_start, script_shown_at, script_star_at, script_star_end, script_tail_at}
+use Rattle.js_step.specs.ScriptPaths.{is_script_before, is_script_within, script_scanned, script_scanned_if}
+use Rattle.js_step.specs.ScriptScanLaws.{script_alone, script_alone_before, script_begun_at}
+use Rattle.js_step.specs.ScriptScans.{ScriptScan, script_before_end, script_scan_cut_error, script_scan_end_error, script_scan_error, script_scan_place, script_scan_shown, script_scan_start, script_at_in, script_one_sense, script_sense_at, script_shown_at, script_star_at, script_star_end, script_tail_at}
 use Rattle.place_core.proofs.Semilattices.{no_map, none_some, one_value}
 use Rattle.place_core.specs.page.Classes.{Class, Ampersand, is_equals_sign}
 use Rattle.place_core.specs.page.References.{Form, Reference, Closed, Open, ReferenceStep, Grows, Closes, Breaks, begin_reference, flushed, meaning, next_reference, plain_bytes, reference_turned, turn, turn_bytes, undone_byte}
 use Rattle.place_core.specs.page.Tags.{Tag, Value, ValueOf, Deciding, ValueState, OfKind, OfUrl, OfStyle, OfScript, feeding, languages, script_code, with_bytes}
-use Rattle.place_core.specs.place.Errors.{FedByte, PathRefusal, ScriptFeeding, at_value_end, deep_at, deep_place, first_path_refusal, one_script, places_with, script_ending_refusal, script_fed, script_fed_refusal, script_places_refusal, script_refusal_at, value_end_cause}
-use Rattle.place_core.specs.place.ScriptParts.{may_begin_text_at, script_body, script_may_begin_text, script_no_tails, script_place, script_senses, script_tails}
+use Rattle.place_core.specs.place.Errors.{FedByte, PathRefusal, at_value_end, deep_at, deep_place, first_path_refusal, one_script, places_with, script_ending_refusal, script_fed, script_fed_refusal, script_places_refusal, script_refusal_at, value_end_cause}
+use Rattle.place_core.specs.place.ScriptParts.{is_new_part, may_begin_text_at, script_body, script_js, script_may_begin_text, script_no_tails, script_place, script_senses, script_tails}
 use Rattle.place_core.specs.place.StatePlaces.{value_body}
-use Rattle.place_core.specs.declared.body.Body.{Body}
 use Rattle.place_core.specs.declared.body.Body.TheVariants as body
 use Rattle.place_core.specs.declared.js.Js.{Js}
 use Rattle.place_core.specs.declared.js.Js.TheVariants as js
@@ -32,7 +34,7 @@ use Rattle.place_core.specs.declared.js_tails.JsTails.{JsTails}
 use Rattle.place_core.specs.declared.senses.Senses.{Senses}
 use Rattle.place_core.specs.declared.quotes.Quotes.{Quotes}
 use Rattle.place_core.specs.declared.value_place.ValuePlace.{ValuePlace}
-use Rattle.html_scan.specs.Scans.{all_scripts, script_fed_byte, script_feeding}
+use Rattle.html_scan.specs.Scans.{all_scripts, script_fed_byte, script_feeding, script_scan_may_end}
 use Rattle.html_step.proofs.FedAlike.{FedAlike}
 
 -- The scan state of a path in a script, with what is kept of its words.
@@ -42,11 +44,12 @@ kept_script_scanned v = option_map kept_scan (script_scanned v)
 -- It is stepped as the path is, and refuses what the path refuses, at a byte, at the end of a node and of a value; and both show the same place. Where
 -- the end of a node is not refused, the path has a place behind it.
 pub record OneKeptScript (v : ScriptState) (n : ScriptScan) : Type 0 where
-  pub error : (b : ℕ) → script_scan_error false n b ≡ script_refuses false v b
-  pub next : (b : ℕ) → script_refuses false v b ≡ None → kept_script_scanned (feed_script v b) ≡ Some (script_fed_byte n b)
+  pub error : (element : Bool) (b : ℕ) → script_scan_error element n b ≡ script_refuses element v b
+  pub next : (element : Bool) (b : ℕ) → script_refuses element v b ≡ None → kept_script_scanned (feed_script v b) ≡ Some (script_fed_byte n b)
   pub shown : script_scan_shown n ≡ option_map script_place (spot_before v)
   pub cut_error : script_scan_cut_error n ≡ script_refuses_cut v
   pub end_error : script_scan_end_error n ≡ refuses_end v
+  pub may_end : script_scan_may_end n ≡ script_may_end v
   pub stands : script_refuses_cut v ≡ None → script_body (script_after_cut v) ≡ Some (body.Js (script_scan_place n))
 
 kept-shown-at : (s : Senses) (x : JsTails) (star : Bool) (a : At) → script_shown_at s x star (kept_at a) ≡ script_shown_at s x star a
@@ -72,16 +75,92 @@ kept-shown n =
     ∙ ap (λ (z : Bool). if outside then script_shown_at n.senses (script_before_end n) (if fresh then n.star else z) (kept_at a) else None) (kept-star a)
     ∙ ap (λ (o : Option Js). if outside then o else None) (kept-shown-at n.senses (script_before_end n) (script_star_end n) a)
 
+-- An end tag may end it where it may end it on the path.
+kept-code : (s : Sense) (a : At) → is_code_or_comment (script_at_in s (kept_at a)) ≡ is_code_or_comment (script_at_in s a)
+kept-code s (Code t) = refl
+kept-code s (Word w) = refl
+kept-code s Number = refl
+kept-code s (Pluses odd) = refl
+kept-code s (Minuses odd) = refl
+kept-code s (Slash t) = refl
+kept-code s (LineComment t) = refl
+kept-code s (BlockComment t star) = refl
+kept-code s (InString q e) = refl
+kept-code s (InRegexp k e) = refl
+kept-code s (InTemplate e d) = refl
+kept-code s TooDeep = refl
+
+kept-may-end : (n : ScriptScan) → script_scan_may_end (kept_scan n) ≡ script_scan_may_end n
+kept-may-end n = ap (λ (x : Bool). is_empty n.state.literals && x) (kept-code (script_one_sense n.senses) n.state.at)
+
+alone-code : (a : At) → is_code_or_comment (script_at_in (script_one_sense (script_senses (script_sense_at a))) a) ≡ is_code_or_comment a
+alone-code (Code t) = refl
+alone-code (Word w) = refl
+alone-code Number = refl
+alone-code (Pluses odd) = refl
+alone-code (Minuses odd) = refl
+alone-code (Slash sense.Re) = refl
+alone-code (Slash sense.Div) = refl
+alone-code (Slash sense.Brace) = refl
+alone-code (LineComment t) = refl
+alone-code (BlockComment t star) = refl
+alone-code (InString q e) = refl
+alone-code (InRegexp k e) = refl
+alone-code (InTemplate e d) = refl
+alone-code TooDeep = refl
+
+begun-code : (a : At)
+    → is_code_or_comment (script_at_in (script_one_sense (script_senses (script_sense_at (script_begun_at a)))) (script_begun_at a))
+    ≡ is_code_or_comment a
+begun-code (Code t) = refl
+begun-code (Word w) = refl
+begun-code Number = refl
+begun-code (Pluses odd) = refl
+begun-code (Minuses odd) = refl
+begun-code (Slash sense.Re) = refl
+begun-code (Slash sense.Div) = refl
+begun-code (Slash sense.Brace) = refl
+begun-code (LineComment t) = refl
+begun-code (BlockComment t star) = refl
+begun-code (InString q e) = refl
+begun-code (InRegexp k e) = refl
+begun-code (InTemplate e d) = refl
+begun-code TooDeep = refl
+
+outside-both : (x y : Bool) (z : Bool) → (x && y) ≡ true → (true && z) ≡ (x && z)
+outside-both true y z h = refl
+outside-both false y z h = cc
+
+may-end-if : (x : Bool) (k n : ScriptScan) (z : Bool) → (x ≡ true → script_scan_may_end k ≡ z) → script_scanned_if x k ≡ Some n
+    → script_scan_may_end n ≡ z
+may-end-if true k n z f e = ap script_scan_may_end (sym (one_value k n e)) ∙ f refl
+may-end-if false k n z f e = absurd (none_some n e)
+
+may-end-by : (x : Bool) (v : ScriptState) (n : ScriptScan)
+    → (if x then script_scanned_if (is_script_before v) (script_alone_before v) else script_scanned_if (is_script_within v) (script_alone v)) ≡ Some n
+    → script_scan_may_end n ≡ script_may_end v
+may-end-by true v n e =
+    may-end-if (is_script_before v) (script_alone_before v) n (script_may_end v)
+    (λ h. begun-code v.at
+    ∙ outside-both (is_empty v.literals) (script_may_begin_text v && (is_empty v.held || (tells_white_apart v.at && is_empty v.trail.markup)))
+    (is_code_or_comment v.at) h) e
+may-end-by false v n e =
+    may-end-if (is_script_within v) (script_alone v) n (script_may_end v) (λ h. ap (λ (y : Bool). is_empty v.literals && y) (alone-code v.at)) e
+
+scanned-may-end : (v : ScriptState) (n : ScriptScan) → script_scanned v ≡ Some n → script_scan_may_end n ≡ script_may_end v
+scanned-may-end v n e = may-end-by v.trail.fresh v n e
+
 kept-path : (v : ScriptState) (n : ScriptScan) → script_scanned v ≡ Some n → OneKeptScript v (kept_scan n)
 kept-path v n i =
     let o = script-paths-are-scanned.goes_on v n i in
     let k = kept-words-suffice n in
     record {
-      error = λ b. k.error false b ∙ o.error false b;
-      next = λ b e. ap (option_map kept_scan) (o.next false b e) ∙ ap Some (sym (k.next b));
+      error = λ element b. k.error element b ∙ o.error element b;
+      next = λ element b e. ap (option_map kept_scan) (o.next element b e) ∙ ap Some (sym (k.next b));
       shown = kept-shown n ∙ o.shown;
       cut_error = k.cut_error ∙ o.cut_error;
       end_error = k.end_error ∙ o.end_error;
+      may_end = kept-may-end n ∙ scanned-may-end v n i;
       stands = λ e. o.stands e ∙ ap (λ (j : Js). Some (body.Js j)) (sym k.place);
     }
 
@@ -120,7 +199,7 @@ IsScriptAt (ValueOf (OfStyle v)) n = ⊥
 IsScriptAt (Deciding k before) n = ⊥
 
 script-errors : (z : Value ValueState) (n : ScriptScan) (b : ℕ) → IsScriptAt z n → (feeding languages).refuses z b ≡ script_feeding.refuses n b
-script-errors (ValueOf (OfScript v)) n b i = ap (option_map (λ (e : Cause). script_code e.refusal)) (sym ((one-script v n i).error b))
+script-errors (ValueOf (OfScript v)) n b i = ap (option_map (λ (e : Cause). script_code e.refusal)) (sym ((one-script v n i).error false b))
 script-errors (ValueOf (OfKind k)) n b i = absurd i
 script-errors (ValueOf (OfUrl u)) n b i = absurd i
 script-errors (ValueOf (OfStyle v)) n b i = absurd i
@@ -130,7 +209,7 @@ script-goes : (z : Value ValueState) (n : ScriptScan) (b : ℕ) → IsScriptAt z
     → IsScriptAt ((feeding languages).feed z b) (script_feeding.feed n b)
 script-goes (ValueOf (OfScript v)) n b i e =
     let o = one-script v n i in
-    o.next b (sym (o.error b) ∙ no_map (λ (x : Cause). script_code x.refusal) (script_scan_error false n b) e)
+    o.next false b (sym (o.error false b) ∙ no_map (λ (x : Cause). script_code x.refusal) (script_scan_error false n b) e)
 script-goes (ValueOf (OfKind k)) n b i e = absurd i
 script-goes (ValueOf (OfUrl u)) n b i e = absurd i
 script-goes (ValueOf (OfStyle v)) n b i e = absurd i
@@ -161,7 +240,7 @@ not-empty : (xs ys : List ClassedByte) → is_empty ys ≡ false → is_empty (x
 not-empty [] ys h = h
 not-empty (x ∷ xs) ys h = refl
 
-bytes-not-empty : (xs ys : List ℕ) → is_empty ys ≡ false → is_empty (xs ++ ys) ≡ false
+pub bytes-not-empty : (xs ys : List ℕ) → is_empty ys ≡ false → is_empty (xs ++ ys) ≡ false
 bytes-not-empty [] ys h = h
 bytes-not-empty (x ∷ xs) ys h = refl
 
@@ -206,15 +285,15 @@ kept false held c b h = absurd (no h)
 
 within-no-body : (s : ScriptState) → s.trail.fresh ≡ false → script_body s ≡ None
 within-no-body s e =
-    let rest = is_empty s.trail.escape && (s.trail.brace == 0 && (s.trail.bracket == 0 && s.trail.literal == 0)) in
-    ap (λ (x : Bool). if (x && rest) && may_begin_text_at s.at s.trail.markup then option_map (λ (p : Spot). body.Js (script_place p)) (script_spot s) else None) e
+    let rest = is_empty s.trail.escape && (s.trail.brace == 0 && (s.trail.bracket == 0 && (s.trail.literal == 0 && is_new_part s.trail.lines))) in
+    ap (λ (x : Bool). option_map body.Js (if (x && rest) && may_begin_text_at s.at s.trail.markup then option_map script_place (script_spot s) else None)) e
 
 no-spot : (x y : Bool) (o : Option Spot) → y ≡ false → (if x && y then o else None) ≡ None
 no-spot true y o e = ap (λ (z : Bool). if z then o else None) e
 no-spot false y o e = refl
 
-none-if : (x : Bool) (o : Option Spot) → o ≡ None → (if x then option_map (λ (p : Spot). body.Js (script_place p)) o else None) ≡ None
-none-if true o e = ap (option_map (λ (p : Spot). body.Js (script_place p))) e
+none-if : (x : Bool) (o : Option Spot) → o ≡ None → option_map body.Js (if x then option_map script_place o else None) ≡ None
+none-if true o e = ap (λ (p : Option Spot). option_map body.Js (option_map script_place p)) e
 none-if false o e = refl
 
 held-no-body : (s : ScriptState) → is_empty s.held ≡ false → script_body s ≡ None
@@ -232,6 +311,24 @@ behind-by false v b e =
 
 pub behind-no-body : (v : ScriptState) (b : ℕ) → script_body (feed_script v b) ≡ None
 behind-no-body v b = behind-by (is_empty (read_at (tells_white_apart v.at) v.held (script.class_of b) b)) v b refl
+
+-- The place of the script alone, as of that of an element.
+one-js-body : (c d : Js) → body.Js c ≡ body.Js d → c ≡ d
+one-js-body c d e = cc
+
+js-of : (o : Option Js) (c : Js) → option_map body.Js o ≡ Some (body.Js c) → o ≡ Some c
+js-of (Some d) c e = ap Some (one-js-body d c (one_value (body.Js d) (body.Js c) e))
+js-of None c e = absurd (none_some (body.Js c) e)
+
+pub js-is : (v : ScriptState) (c : Js) → script_body v ≡ Some (body.Js c) → script_js v ≡ Some c
+js-is v c e = js-of (script_js v) c e
+
+no-js-by : (o : Option Js) → option_map body.Js o ≡ None → o ≡ None
+no-js-by (Some c) e = cc
+no-js-by None e = refl
+
+pub behind-no-js : (v : ScriptState) (b : ℕ) → script_js (feed_script v b) ≡ None
+behind-no-js v b = no-js-by (script_js (feed_script v b)) (behind-no-body v b)
 
 pub with-no-body : (bytes : List ℕ) (v : ScriptState) → is_empty bytes ≡ false → value_body (with_bytes languages (ValueOf (OfScript v)) bytes) ≡ None
 with-no-body [] v h = absurd (no (sym h))
@@ -278,13 +375,13 @@ pub fed-refusal : (xs : List FedByte) (places : List ℕ) (v : ScriptState) (n :
 fed-refusal [] places v n i = refl
 fed-refusal (x ∷ xs) places v n i =
     let o = one-script v n i in
-    let e = sym (o.error x.byte) in
+    let e = sym (o.error false x.byte) in
     let later = x.place ∷ places in
     ap (λ (y : Option Cause). first_path_refusal (script_refusal_at later y) (script_fed_refusal one_script later (feed_script v x.byte) xs)) e
     ∙ path-first (script_refusal_at later (script_scan_error false n x.byte)) (script_fed_refusal one_script later (feed_script v x.byte) xs)
     (script_fed_refusal all_scripts later (script_fed_byte n x.byte) xs)
     (λ h. fed-refusal xs later (feed_script v x.byte) (script_fed_byte n x.byte)
-    (o.next x.byte (e ∙ refusal-none later (script_scan_error false n x.byte) h)))
+    (o.next false x.byte (e ∙ refusal-none later (script_scan_error false n x.byte) h)))
 
 pub fed-scanned : (xs : List FedByte) (places : List ℕ) (v : ScriptState) (n : ScriptScan) → kept_script_scanned v ≡ Some n
     → script_fed_refusal all_scripts places n xs ≡ None → kept_script_scanned (script_fed one_script v xs) ≡ Some (script_fed all_scripts n xs)
@@ -294,7 +391,7 @@ fed-scanned (x ∷ xs) places v n i h =
     let later = x.place ∷ places in
     let p = first-unrefused (script_refusal_at later (script_scan_error false n x.byte)) (script_fed_refusal all_scripts later (script_fed_byte n x.byte) xs) h in
     fed-scanned xs later (feed_script v x.byte) (script_fed_byte n x.byte)
-    (o.next x.byte (sym (o.error x.byte) ∙ refusal-none later (script_scan_error false n x.byte) p.0)) p.1
+    (o.next false x.byte (sym (o.error false x.byte) ∙ refusal-none later (script_scan_error false n x.byte) p.0)) p.1
 
 end-cause : (ends : Bool) (v : ScriptState) (n : ScriptScan) → kept_script_scanned v ≡ Some n → value_end_cause one_script ends v ≡ value_end_cause all_scripts ends n
 end-cause true v n i = sym (one-script v n i).end_error

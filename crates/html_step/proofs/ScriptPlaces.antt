@@ -2,7 +2,7 @@
 use Rattle.std.proofs.Common.{◌≡◌, ◌<◌, ◌≤◌, ℕ, ◌+◌, ◌-◌, zero, suc, Bool, true, false, List, [], ◌∷◌, ◌++◌, length, Option, Some, None, encode_utf8, refl, ap, arith}
 use Rattle.js_lexer.specs.Refusals.{Cause}
 use Rattle.place_core.specs.page.Classes.{Class, White, QuotationMark, Apostrophe, GreaterThan, is_equals_sign}
-use Rattle.place_core.specs.page.References.{Form, Reference, Closed, Open, ReferenceStep, Grows, Closes, Breaks, as_it_stands, flushed, meaning, plain_bytes, turn}
+use Rattle.place_core.specs.page.References.{Form, Reference, Closed, Open, ReferenceStep, Grows, Closes, Breaks, flushed, meaning, plain_bytes, turn}
 use Rattle.place_core.specs.place.Errors.{FedByte, PathRefusal, ScriptFeeding, at_value_end, cut_places, fed_places, first_path_refusal, first_places, flushed_places, is_written, place_back, placed_bytes, places_with, script_ending_refusal, script_fed, script_fed_refusal, script_places_refusal, script_refusal_at, turned_places, value_end_cause}
 use Rattle.html_step.proofs.StylePaths.{written-is}
 

@@ -1,31 +1,29 @@
 -- Where a script refuses none of the bytes that a byte of the text feeds it, nor its end: so it is on each path, what it refuses there has other causes,
 -- and the same is kept of the text that has been read.
-use Rattle.std.proofs.Common.{◌≡◌, ℕ, ◌+◌, ◌-◌, Bool, true, false, ◌||◌, ◌&&◌, List, [], ◌∷◌, length, Option, Some, None, option_map, if◌then◌else◌, refl, sym, ap, ◌∙◌, subst}
+use Rattle.std.proofs.Common.{◌≡◌, ℕ, ◌-◌, Bool, true, false, List, [], ◌∷◌, Option, Some, None, option_map, if◌then◌else◌, refl, sym, ap, ◌∙◌, subst}
 use Rattle.js_lexer.specs.Refusals.{Cause, Refusal, JSTemplate}
 use Rattle.js_step.specs.ScriptEvidence.{IsScriptShownBy, script_shown_by}
-use Rattle.js_step.specs.ScriptScans.{ScriptScan, script_scan_cut_error, script_scan_end_error, script_scan_error, script_scan_start}
+use Rattle.js_step.specs.ScriptScans.{ScriptScan, script_scan_end_error, script_scan_start}
 use Rattle.js_step.proofs.ScriptEvidence.{scripts-shown}
 use Rattle.place_core.specs.page.Classes.{Class, White, QuotationMark, Apostrophe, GreaterThan}
 use Rattle.place_core.specs.page.Html.{ends_value}
-use Rattle.place_core.specs.page.References.{Form, Reference, Closed, Open, as_it_stands, plain_bytes}
+use Rattle.place_core.specs.page.References.{Reference, Closed, plain_bytes}
 use Rattle.place_core.specs.page.Tags.{feed_bytes, script_code, DoubleQuoted, SingleQuoted, Unquoted}
-use Rattle.place_core.specs.place.Errors.{FedByte, PathCause, PathRefusal, TextRead, at_hand, at_value_end, bare_error, cause_back, deep_at, deep_place, fed_error, fed_places, first_byte_error, first_cause, first_path_refusal, first_places, is_told_at_node_end, language_error, or_deep, places_with, quotes_error, script_fed, script_refusal_at, value_end_cause, value_error, placed_bytes, body_error}
-use Rattle.place_core.specs.place.LastLexeme.{last_lexeme_start}
-use Rattle.place_core.specs.place.Places.{IsValid, IsValidBody, joined_bodies, joined_quotes}
+use Rattle.place_core.specs.place.Errors.{FedByte, PathCause, PathRefusal, TextRead, at_hand, at_value_end, bare_error, cause_back, deep_at, fed_error, fed_places, first_byte_error, first_cause, first_path_refusal, first_places, is_told_at_node_end, language_error, places_with, quotes_error, script_refusal_at, value_end_cause, value_error, placed_bytes, body_error}
+use Rattle.place_core.specs.place.Places.{IsValidBody, joined_bodies, joined_quotes}
 use Rattle.place_core.specs.declared.bare.Bare.{Bare}
 use Rattle.place_core.specs.declared.body.Body.{Body}
 use Rattle.place_core.specs.declared.body.Body.TheVariants as body
 use Rattle.place_core.specs.declared.code.Code.{Code}
 use Rattle.place_core.specs.declared.js.Js.{Js}
 use Rattle.place_core.specs.declared.member.Member.TheVariants as member
-use Rattle.place_core.specs.declared.place.Place.{Place}
 use Rattle.place_core.specs.declared.place.Place.TheVariants as place
 use Rattle.place_core.specs.declared.quotes.Quotes.{Quotes}
 use Rattle.place_core.specs.declared.quotes.Quotes.TheVariants as quotes
 use Rattle.place_core.specs.declared.tag_of.TagOf.{TagOf}
 use Rattle.place_core.specs.declared.value_place.ValuePlace.{ValuePlace}
 use Rattle.place_core.proofs.Semilattices.{no_map, none_some}
-use Rattle.html_scan.specs.Scans.{Scan, At, InScript, all_scripts, begun_script_deep, begun_script_fed, begun_script_refusal, body_cause, ends_quoted, quoted_error, quoted_places, scan_error, scan_fed_behind, scan_deep_behind, scan_reference, scan_script_refusal, script_cause, script_fed_byte, script_feeding, script_step_deep, script_step_refusal, scan_cut_error, scan_script_cut_refusal}
+use Rattle.html_scan.specs.Scans.{Scan, At, InScript, all_scripts, begun_script_deep, begun_script_fed, begun_script_refusal, body_cause, ends_quoted, quoted_error, quoted_places, scan_error, scan_fed_behind, scan_deep_behind, scan_script_refusal, script_cause, script_fed_byte, script_feeding, script_step_deep, script_step_refusal, scan_cut_error, scan_script_cut_refusal}
 use Rattle.place_core.proofs.Joins.{places_same}
 use Rattle.html_step.proofs.UrlScans.{below-reference}
 use Rattle.html_step.proofs.FedAlike.{first-caused}
@@ -33,9 +31,9 @@ use Rattle.html_step.proofs.PathScans.{none-at-hand}
 use Rattle.html_step.specs.Origins.{begun_script_shows, bytes_of_places, script_back, script_value_ends, script_shown, script_step_shows, script_told_shown}
 use Rattle.html_step.specs.Steps.{scan_read_behind}
 use Rattle.html_step.proofs.BelowScans.{below-script, below-at-value}
-use Rattle.html_step.proofs.ScanOrder.{HasBegun, ScanBelow, ScanValid, ScriptValueBelow, bare-parts, cause-accepts, first-none, end-grows, script_cut}
+use Rattle.html_step.proofs.ScanOrder.{ScanBelow, ScanValid, bare-parts, cause-accepts, first-none, end-grows, script_cut}
 use Rattle.html_step.proofs.PlaceParts.{Under, ValueBelow, below-value}
-use Rattle.html_step.proofs.ScriptAlike.{Alike, alike-quoted, same-quoted-bytes, shown-under, told-none}
+use Rattle.html_step.proofs.ScriptAlike.{Alike, alike-quoted, same-quoted-bytes, shown-under, takes-value, told-none}
 use Rattle.html_step.proofs.ScriptEnds.{begun-none, fed-none, fed-state, bytes-placed, script-cut-takes}
 use Rattle.html_step.proofs.ScriptFrom.{TakesScript}
 use Rattle.html_step.proofs.ScriptOrder.{ScriptUnder, script-grows}
@@ -60,13 +58,13 @@ pub takes-under : (bytes : List ℕ) (m k : ScriptScan) → TakesScript bytes m 
 takes-under [] m k t l = (tt, l)
 takes-under (b ∷ bs) m k t l =
     let g = script-grows k m l in
-    let more = takes-under bs (script_fed_byte m b) (script_fed_byte k b) t.1 (g.next b t.0) in
-    ((g.error b t.0, more.0), more.1)
+    let more = takes-under bs (script_fed_byte m b) (script_fed_byte k b) t.1 (g.next false b t.0) in
+    ((g.error false b t.0, more.0), more.1)
 
 abbrev pub no_end : ScriptScan → Option Cause
 no_end n = None
 
-pub both-alike : (bytes : List ℕ) (k m : ScriptScan) → TakesScript bytes k → TakesScript bytes m → Alike bytes no_end k m
+pub both-alike : (bytes : List ℕ) (k m : ScriptScan) → TakesScript bytes k → TakesScript bytes m → Alike false bytes no_end k m
 both-alike [] k m s t = refl
 both-alike (b ∷ bs) k m s t = (s.0 ∙ sym t.0, λ e. both-alike bs (script_fed_byte k b) (script_fed_byte m b) s.1 t.1)
 
@@ -100,7 +98,9 @@ pub quiet-told : (q : Quotes) (r : Reference) (c : Class) (b : ℕ) (m : ScriptS
     × (script_value_ends (ends_quoted q c) (feed_bytes script_feeding m (bytes_of_places (quoted_places q 0 r c b))) ≡ None)
 quiet-told q r c b m h =
     (let ends = script_value_ends (ends_quoted q c) in
-    told-none (bytes_of_places (quoted_places q 0 r c b)) ends m (no_map (script_back m) (script_told_shown ends (bytes_of_places (quoted_places q 0 r c b)) m) h))
+    let bytes = bytes_of_places (quoted_places q 0 r c b) in
+    let d = told-none false bytes ends m (no_map (script_back m) (script_told_shown false ends bytes m) h) in
+    (takes-value bytes m d.0, d.1))
 
 first-of : (o p : Option PathRefusal) → o ≡ None → p ≡ None → first_path_refusal o p ≡ None
 first-of o p e i = ap (λ (x : Option PathRefusal). first_path_refusal x p) e ∙ i

@@ -1,9 +1,9 @@
 -- No script refuses a quotation mark where a text begins.
-use Rattle.std.proofs.Common.{◌≡◌, ◌<◌, ◌≤◌, ◌==◌, ◌||◌, ◌⊎◌, inl, inr, ℕ, Bool, true, false, not, List, [], Option, None, refl, sym, ap, ◌∙◌, subst}
+use Rattle.std.proofs.Common.{◌≡◌, ◌<◌, ◌≤◌, ◌==◌, ◌||◌, ◌⊎◌, inl, inr, ℕ, Bool, true, false, not, [], Option, None, refl, sym, ap, ◌∙◌, subst}
 use Rattle.std.proofs.lemmas.Bool.{agree_below, agree_below_at, cases_lt, eqb-true}
 use Rattle.js_lexer.specs.Classes as script
 use Rattle.js_lexer.specs.Refusals.{Cause, first_script_cause}
-use Rattle.js_lexer.specs.States.{At, Code, LineComment, BlockComment}
+use Rattle.js_lexer.specs.States.{Code, LineComment, BlockComment}
 use Rattle.js_lexer.specs.WhiteSpace as white
 use Rattle.js_lexer.specs.declared.class.ScriptClass.{ScriptClass}
 use Rattle.js_lexer.specs.declared.class.ScriptClass.TheVariants as class

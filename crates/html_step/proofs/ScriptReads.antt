@@ -1,22 +1,19 @@
 -- What is kept of the bytes that have been read fits the state that they have led to: the places of the bytes of a script stand before the byte at hand,
 -- and so does the `&` of an open reference; where a value is at a place no byte of it has been read.
-use Rattle.std.proofs.Common.{◌≡◌, ◌<◌, ℕ, ◌+◌, Bool, true, false, List, [], ◌∷◌, ◌++◌, codes, length, Option, Some, None, refl, sym, ap, ◌∙◌, arith}
-use Rattle.std.specs.Char.{to_ascii_lowercase}
+use Rattle.std.proofs.Common.{◌≡◌, ◌<◌, ℕ, ◌+◌, Bool, true, false, List, [], ◌∷◌, ◌++◌, codes, length, Some, None, refl, sym, ◌∙◌, arith}
 use Rattle.js_lexer.specs.Holes.{script_after_cut}
 use Rattle.js_lexer.specs.States.{ScriptState, script_start}
 use Rattle.place_core.proofs.Semilattices.{none_some}
-use Rattle.place_core.specs.page.Classes.{Class, White, Ampersand, ExclamationMark, QuotationMark, Apostrophe, HyphenMinus, Solidus, LessThan, EqualsSign, GreaterThan, QuestionMark, Letter, is_equals_sign}
+use Rattle.place_core.specs.page.Classes.{Class, White, Ampersand, ExclamationMark, QuotationMark, Apostrophe, HyphenMinus, Solidus, LessThan, EqualsSign, GreaterThan, Letter}
 use Rattle.place_core.specs.page.Comments.{Declaration, OpensComment, OpensDoctype, Undecided, OpensNothing, closes_comment, comment_ended, declared_by, next_in_bogus, next_in_comment, next_in_doctype}
-use Rattle.place_core.specs.page.Contents.{content_after, is_name_of, may_be_name_of, next_bang, next_end_name, next_in_content, next_less, next_loose}
+use Rattle.place_core.specs.page.Contents.{content_after, is_name_of, may_be_name_of, next_bang, next_end_name, next_in_content, next_less, next_loose, ScriptStep, Reads, EndsContent, script_step, behind_end_tag, next_by_step}
 use Rattle.place_core.specs.page.Html.{after_tag, ends_value, next, next_after_name, next_after_value, next_before_name, next_before_value, next_declaration, next_end_tag_open, next_name, next_tag_name, next_tag_open, next_text, next_value}
-use Rattle.place_core.specs.page.References.{Begun, Form, Reference, Closed, Open, ReferenceStep, Grows, Closes, Breaks, begin_reference, next_reference, reference_turned, settled, turn, undone_byte}
-use Rattle.place_core.specs.page.States.{Template, LexState, Text, TagOpen, EndTagOpen, DeclarationOpen, CommentState, InComment, BogusComment, InDoctype, TagName, WholeTagName, BeforeAttributeName, AttributeName, WholeAttributeName, AfterAttributeName, BeforeAttributeValue, AttributeValue, AfterAttributeValue, SelfClosingStartTag, Content, Characters, Bytes, InLanguage, Pending, Nothing, PendingLess, LessAtCut, PendingName, PendingBang, PendingBangDash, InContent, Unread}
-use Rattle.place_core.specs.page.Tags.{Tag, Value, ValueOf, Deciding, ValueState, OfKind, OfUrl, OfStyle, OfScript, Quoting, DoubleQuoted, SingleQuoted, Unquoted, attribute_value_of, element_on, languages, tag_of_name, tag_with_value, with_bytes, without_value}
+use Rattle.place_core.specs.page.References.{Form, Reference, Closed, Open, ReferenceStep, Grows, Closes, Breaks, begin_reference, next_reference, reference_turned, settled, turn, undone_byte}
+use Rattle.place_core.specs.page.States.{Template, LexState, Text, TagOpen, EndTagOpen, DeclarationOpen, CommentState, InComment, BogusComment, InDoctype, TagName, WholeTagName, BeforeAttributeName, AttributeName, WholeAttributeName, AfterAttributeName, BeforeAttributeValue, AttributeValue, AfterAttributeValue, SelfClosingStartTag, Content, Characters, Bytes, InLanguage, Pending, Nothing, PendingLess, LessAtCut, PendingName, PendingBang, PendingBangDash, InContent, PendingOpening}
+use Rattle.place_core.specs.page.Tags.{Tag, Value, ValueOf, Deciding, ValueState, OfKind, OfUrl, OfStyle, OfScript, Quoting, DoubleQuoted, SingleQuoted, Unquoted, element_on, languages, tag_of_name, tag_with_value, with_bytes, without_value}
 use Rattle.place_core.specs.page.Words.{kind_of}
 use Rattle.place_core.specs.place.Errors.{TextRead, fed_behind, fed_places, first_places, nothing_read, read_behind}
-use Rattle.place_core.specs.place.ScriptParts.{script_body}
 use Rattle.place_core.specs.place.StatePlaces.{placed, value_body}
-use Rattle.place_core.specs.declared.body.Body.{Body}
 use Rattle.place_core.specs.declared.element.Element.{Element}
 use Rattle.place_core.specs.declared.element.Element.TheVariants as element
 use Rattle.place_core.specs.declared.kind.Kind.{Kind}
@@ -27,6 +24,7 @@ use Rattle.place_core.specs.declared.tag_of.TagOf.TheVariants as tag
 use Rattle.html_step.proofs.PathScans.{FitsFed, FitsValue, value_reference}
 use Rattle.html_step.proofs.ScriptPaths.{some-fed, with-no-body}
 use Rattle.html_step.proofs.ScriptPlaces.{AreBelow, ReferenceBelow, bytes-below, first-places-below, more-below, with-below}
+use Rattle.js_lexer.specs.Elements.{script_may_end}
 
 pub record ReadFits (k : ℕ) (since : TextRead) (s : LexState ValueState) : Type 0 where
   pub fits : FitsFed since.fed s
@@ -149,7 +147,17 @@ no-content PendingLess c b e y = no-less c b e y
 no-content LessAtCut c b e y = no-loose c b e (content_after languages y (codes "<"))
 no-content (PendingName letters) c b e y = no-end-name (may_be_name_of e (letters ++ b ∷ [])) (is_name_of e letters) c b e y letters
 no-content PendingBang c b e y = no-bang c b e y
+no-content (PendingOpening letters) c b e y = no-loose c b e (content_after languages y (codes "<" ++ letters))
 no-content PendingBangDash c b e y = no-loose c b e (content_after languages y (codes "<!-"))
+
+no-end-tag : (c : Class) → IsNoValue (behind_end_tag c)
+no-end-tag White = tt
+no-end-tag Solidus = tt
+no-end-tag c = tt
+
+no-step : (step : ScriptStep) (c : Class) (e : Element) (s : ScriptState) → IsNoValue (next_by_step languages step c e (OfScript s))
+no-step (Reads bytes h) c e s = tt
+no-step (EndsContent letters) c e s = no-end-tag c
 
 abbrev IsOutside : LexState ValueState → Type 0
 IsOutside (AttributeValue q t v r) = ⊥
@@ -174,8 +182,12 @@ no-value-next (BeforeAttributeValue t k) c b h = absurd h
 no-value-next (AttributeValue q t v r) c b h = absurd h
 no-value-next (AfterAttributeValue t) c b h = no-before-name c b t
 no-value-next (SelfClosingStartTag t) c b h = no-before-name c b t
-no-value-next (InContent e y x) c b h = no-content x c b e y
-no-value-next Unread c b h = tt
+no-value-next (InContent e (Characters r) x) c b h = no-content x c b e (Characters r)
+no-value-next (InContent e Bytes x) c b h = no-content x c b e Bytes
+no-value-next (InContent e (InLanguage (OfKind k)) x) c b h = no-content x c b e (InLanguage (OfKind k))
+no-value-next (InContent e (InLanguage (OfUrl u)) x) c b h = no-content x c b e (InLanguage (OfUrl u))
+no-value-next (InContent e (InLanguage (OfStyle s)) x) c b h = no-content x c b e (InLanguage (OfStyle s))
+no-value-next (InContent e (InLanguage (OfScript s)) x) c b h = no-step (script_step (script_may_end s) e x c b) c e s
 
 -- a value that goes on
 snoc-length : (xs : List ℕ) (b : ℕ) → length (xs ++ b ∷ []) ≡ length xs + 1

@@ -12,7 +12,7 @@ use Rattle.place_core.specs.page.Classes.{Class, White, QuotationMark, Apostroph
 use Rattle.place_core.specs.page.Html.{ends_value}
 use Rattle.place_core.specs.page.References.{Form, Reference, Closed, Open, ReferenceStep, Grows, Closes, Breaks, as_it_stands, flushed, meaning, plain_bytes, settled, turn, turn_bytes, undone_byte}
 use Rattle.place_core.specs.page.Tags.{feed_bytes, script_code, Unquoted}
-use Rattle.place_core.specs.place.Errors.{FedByte, at_value_end, fed_places, first_places, is_told_at_node_end, is_written, placed_bytes, turned_places}
+use Rattle.place_core.specs.place.Errors.{at_value_end, fed_places, first_places, is_told_at_node_end, is_written, placed_bytes, turned_places}
 use Rattle.place_core.specs.declared.body.Body.{Body}
 use Rattle.place_core.specs.declared.body.Body.TheVariants as body
 use Rattle.place_core.specs.declared.js.Js.{Js}
@@ -92,64 +92,66 @@ first-of-three : (a b c : Option EvidenceData) → first_shown a (first_shown b 
 first-of-three (Some x) b c = refl
 first-of-three None b c = refl
 
-shown-more : (xs ys : List ℕ) (n : ScriptScan)
-    → script_fed_shown (xs ++ ys) n ≡ first_shown (script_fed_shown xs n) (script_fed_shown ys (feed_bytes script_feeding n xs))
-shown-more [] ys n = refl
-shown-more (x ∷ xs) ys n =
-    ap (first_shown (script_byte_shown n x)) (shown-more xs ys (script_fed_byte n x))
-    ∙ first-of-three (script_byte_shown n x) (script_fed_shown xs (script_fed_byte n x)) (script_fed_shown ys (feed_bytes script_feeding (script_fed_byte n x) xs))
+pub shown-more : (element : Bool) (xs ys : List ℕ) (n : ScriptScan)
+    → script_fed_shown element (xs ++ ys) n
+    ≡ first_shown (script_fed_shown element xs n) (script_fed_shown element ys (feed_bytes script_feeding n xs))
+shown-more element [] ys n = refl
+shown-more element (x ∷ xs) ys n =
+    ap (first_shown (script_byte_shown element n x)) (shown-more element xs ys (script_fed_byte n x))
+    ∙ first-of-three (script_byte_shown element n x) (script_fed_shown element xs (script_fed_byte n x))
+    (script_fed_shown element ys (feed_bytes script_feeding (script_fed_byte n x) xs))
 
 pub script-closes-shown : (n : ScriptScan) (f : Form) (read : List ℕ) (c : Class) (b : ℕ) (code : ℕ) → turn c f ≡ Closes → code ≡ meaning f read
-    → script_fed_shown (encode_utf8 code) n ≡ script_fed_shown (undone_byte true (Open f read) c b) n
+    → script_fed_shown false (encode_utf8 code) n ≡ script_fed_shown false (undone_byte true (Open f read) c b) n
 script-closes-shown n f read c b code e i =
-    ap (λ (x : ℕ). script_fed_shown (encode_utf8 x) n) i ∙ ap (λ (x : ReferenceStep). script_fed_shown (turn_bytes true x f read c b) n) (sym e)
+    ap (λ (x : ℕ). script_fed_shown false (encode_utf8 x) n) i ∙ ap (λ (x : ReferenceStep). script_fed_shown false (turn_bytes true x f read c b) n) (sym e)
 
 pub script-breaks-shown : (a d : Option EvidenceData) (n w : ScriptScan) (f : Form) (read : List ℕ) (c : Class) (b : ℕ) (equals : Bool) → turn c f ≡ Breaks
     → equals ≡ is_equals_sign c → w ≡ feed_bytes script_feeding n (flushed true equals f read)
-    → a ≡ script_fed_shown (flushed true equals f read) n → d ≡ script_fed_shown (plain_bytes c b) w
-    → first_shown a d ≡ script_fed_shown (undone_byte true (Open f read) c b) n
+    → a ≡ script_fed_shown false (flushed true equals f read) n → d ≡ script_fed_shown false (plain_bytes c b) w
+    → first_shown a d ≡ script_fed_shown false (undone_byte true (Open f read) c b) n
 script-breaks-shown a d n w f read c b equals e i j h k =
     ap (λ (x : Option EvidenceData). first_shown x d) h
-    ∙ ap (first_shown (script_fed_shown (flushed true equals f read) n)) (k ∙ ap (script_fed_shown (plain_bytes c b)) j)
-    ∙ sym (shown-more (flushed true equals f read) (plain_bytes c b) n)
-    ∙ ap (λ (x : Bool). script_fed_shown (flushed true x f read ++ plain_bytes c b) n) i
-    ∙ ap (λ (x : ReferenceStep). script_fed_shown (turn_bytes true x f read c b) n) (sym e)
+    ∙ ap (first_shown (script_fed_shown false (flushed true equals f read) n)) (k ∙ ap (script_fed_shown false (plain_bytes c b)) j)
+    ∙ sym (shown-more false (flushed true equals f read) (plain_bytes c b) n)
+    ∙ ap (λ (x : Bool). script_fed_shown false (flushed true x f read ++ plain_bytes c b) n) i
+    ∙ ap (λ (x : ReferenceStep). script_fed_shown false (turn_bytes true x f read c b) n) (sym e)
 
 -- Bytes, and then an end.
-told-split : (ends : ScriptScan → Option Cause) (xs : List ℕ) (n : ScriptScan)
-    → script_told_shown ends xs n
-    ≡ first_shown (script_fed_shown xs n) (script_end_shows (ends (feed_bytes script_feeding n xs)) (feed_bytes script_feeding n xs))
-told-split ends [] n = refl
-told-split ends (x ∷ xs) n =
+pub told-split : (element : Bool) (ends : ScriptScan → Option Cause) (xs : List ℕ) (n : ScriptScan)
+    → script_told_shown element ends xs n
+    ≡ first_shown (script_fed_shown element xs n) (script_end_shows (ends (feed_bytes script_feeding n xs)) (feed_bytes script_feeding n xs))
+told-split element ends [] n = refl
+told-split element ends (x ∷ xs) n =
     let m = feed_bytes script_feeding (script_fed_byte n x) xs in
-    ap (first_shown (script_byte_shown n x)) (told-split ends xs (script_fed_byte n x))
-    ∙ first-of-three (script_byte_shown n x) (script_fed_shown xs (script_fed_byte n x)) (script_end_shows (ends m) m)
+    ap (first_shown (script_byte_shown element n x)) (told-split element ends xs (script_fed_byte n x))
+    ∙ first-of-three (script_byte_shown element n x) (script_fed_shown element xs (script_fed_byte n x)) (script_end_shows (ends m) m)
 
-pub told-cut : (n m : ScriptScan) (r : Reference) (x y z : Option EvidenceData) → z ≡ first_shown x y → x ≡ script_fed_shown (as_it_stands r) n
+pub told-cut : (n m : ScriptScan) (r : Reference) (x y z : Option EvidenceData) → z ≡ first_shown x y → x ≡ script_fed_shown false (as_it_stands r) n
     → m ≡ feed_bytes script_feeding n (as_it_stands r) → y ≡ script_end_shows (script_scan_cut_error m) m
-    → z ≡ script_told_shown script_scan_cut_error (as_it_stands r) n
+    → z ≡ script_told_shown false script_scan_cut_error (as_it_stands r) n
 told-cut n m r x y z h i j k =
     h ∙ ap₂ first_shown i (k ∙ ap (λ (s : ScriptScan). script_end_shows (script_scan_cut_error s) s) j)
-    ∙ sym (told-split script_scan_cut_error (as_it_stands r) n)
+    ∙ sym (told-split false script_scan_cut_error (as_it_stands r) n)
 
 end-same : (e : Bool) (m n : ScriptScan) → (e ≡ true → m ≡ n) → script_end_shows (script_value_ends e m) m ≡ script_end_shows (script_value_ends e n) n
 end-same true m n h = ap (λ (s : ScriptScan). script_end_shows (script_value_ends true s) s) (h refl)
 end-same false m n h = refl
 
 pub told-value : (q : Quotes) (r o : Reference) (c : Class) (b : ℕ) (n m : ScriptScan) (s e : Bool) (x y z : Option EvidenceData) → z ≡ first_shown x y
-    → s ≡ stops q c → o ≡ read_between q r → x ≡ script_fed_shown (bytes_at s o c b) n
+    → s ≡ stops q c → o ≡ read_between q r → x ≡ script_fed_shown false (bytes_at s o c b) n
     → e ≡ ends_quoted q c → m ≡ feed_bytes script_feeding n (settled true r) → y ≡ script_end_shows (script_value_ends e m) m
-    → z ≡ script_told_shown (script_value_ends (ends_quoted q c)) (bytes_of_places (quoted_places q 0 r c b)) n
+    → z ≡ script_told_shown false (script_value_ends (ends_quoted q c)) (bytes_of_places (quoted_places q 0 r c b)) n
 told-value q r o c b n m s e x y z h i j k l p t =
     let bytes = bytes_at (stops q c) (read_between q r) c b in
-    let fed : x ≡ script_fed_shown bytes n =
-    k ∙ ap₂ (λ (v : Bool) (w : Reference). script_fed_shown (bytes_at v w c b) n) i j in
+    let fed : x ≡ script_fed_shown false bytes n =
+    k ∙ ap₂ (λ (v : Bool) (w : Reference). script_fed_shown false (bytes_at v w c b) n) i j in
     let ends : y ≡ script_end_shows (script_value_ends (ends_quoted q c) m) m = t ∙ ap (λ (v : Bool). script_end_shows (script_value_ends v m) m) l in
     let behind = feed_bytes script_feeding n bytes in
     let same : script_end_shows (script_value_ends (ends_quoted q c) m) m ≡ script_end_shows (script_value_ends (ends_quoted q c) behind) behind =
     end-same (ends_quoted q c) m behind (λ d. p ∙ ap (feed_bytes script_feeding n) (ended-bytes q r c b d)) in
-    h ∙ ap₂ first_shown fed (ends ∙ same) ∙ sym (told-split (script_value_ends (ends_quoted q c)) bytes n)
-    ∙ ap (λ (xs : List ℕ). script_told_shown (script_value_ends (ends_quoted q c)) xs n) (sym (quoted-bytes q r c b))
+    h ∙ ap₂ first_shown fed (ends ∙ same) ∙ sym (told-split false (script_value_ends (ends_quoted q c)) bytes n)
+    ∙ ap (λ (xs : List ℕ). script_told_shown false (script_value_ends (ends_quoted q c)) xs n) (sym (quoted-bytes q r c b))
 
 -- What an end shows, by its printed code.
 same-template : (r : Refusal) → is_template_code (script_code r) ≡ is_told_at_node_end r

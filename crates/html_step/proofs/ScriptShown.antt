@@ -1,15 +1,14 @@
 -- In a script, up to the byte that is refused, what stands before the bytes that are left is not refused: so the place is shown behind it.
-use Rattle.std.proofs.Common.{◌≡◌, ◌<◌, ◌≤◌, ◌⊎◌, inl, inr, ℕ, ◌+◌, ◌-◌, suc, nat_lt, Bool, true, false, List, [], ◌∷◌, ◌++◌, length, Option, Some, None, option_map, Result, Ok, Err, if◌then◌else◌, refl, sym, ap, ◌∙◌, subst, arith}
+use Rattle.std.proofs.Common.{◌≡◌, ◌<◌, ◌≤◌, ◌⊎◌, inl, inr, ℕ, ◌+◌, ◌-◌, nat_lt, Bool, true, false, List, [], ◌∷◌, ◌++◌, length, Option, Some, None, option_map, Result, Ok, Err, if◌then◌else◌, refl, sym, ap, ◌∙◌, subst, arith}
 use Rattle.std.specs.Prelude.{⊤}
 use Rattle.js_lexer.specs.Refusals.{Cause}
 use Rattle.js_step.specs.ScriptScans.{ScriptScan, script_scan_error}
 use Rattle.place_core.proofs.Semilattices.{none_some}
 use Rattle.place_core.specs.page.Classes.{Class, is_equals_sign}
 use Rattle.place_core.specs.page.Html.{ends_value}
-use Rattle.place_core.specs.page.References.{Form, Reference, Closed, Open, ReferenceStep, Breaks, flushed, plain_bytes, turn}
+use Rattle.place_core.specs.page.References.{Form, Reference, Open, ReferenceStep, Breaks, flushed, plain_bytes, turn}
 use Rattle.place_core.specs.page.Tags.{Quoting, DoubleQuoted, SingleQuoted, Unquoted, script_code}
 use Rattle.place_core.specs.place.Errors.{FedByte, PathCause, PathRefusal, ScriptFeeding, at_hand, before_cause, cause_back, cut_places, fed_error, fed_places, first_cause, first_path_refusal, flushed_error, flushed_places, is_written, language_error, at_value_end, placed_bytes, places_with, script_ending_refusal, script_fed, script_fed_refusal, script_places_refusal, script_refusal_at, turned_places, value_end_cause, value_error}
-use Rattle.place_core.specs.declared.bare.Bare.{Bare}
 use Rattle.place_core.specs.declared.place.Place.{Place}
 use Rattle.place_core.specs.declared.quotes.Quotes.{Quotes}
 use Rattle.place_core.specs.declared.quotes.Quotes.TheVariants as quotes
@@ -17,7 +16,7 @@ use Rattle.place_core.specs.declared.value_place.ValuePlace.{ValuePlace}
 use Rattle.html_scan.specs.Scans.{InScript, all_scripts, ends_quoted, quoted_error, quoted_places, scan_script_cut_refusal, script_cause, script_fed_byte, script_feeding, script_step_refusal, written_error}
 use Rattle.html_step.specs.Steps.{unless_script_refused}
 use Rattle.html_step.proofs.ScriptPaths.{refusal-none, first-unrefused}
-use Rattle.html_step.proofs.ScriptPlaces.{AreBelow, FedBelow, RefusalBelow, cut-below, fed-below, flushed-below}
+use Rattle.html_step.proofs.ScriptPlaces.{AreBelow, RefusalBelow, cut-below, fed-below, flushed-below}
 use Rattle.html_step.proofs.StylePaths.{HasValue, StandsHere, ends-no-equals, first-here, language-here, written-here}
 
 -- an answer that takes the text up to a byte

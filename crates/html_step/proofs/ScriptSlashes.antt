@@ -6,7 +6,7 @@ use Rattle.js_lexer.specs.declared.sense.Sense.TheVariants as sense
 use Rattle.js_step.specs.ScriptScans.{script_scan_start, script_senses_differ}
 use Rattle.js_step.proofs.ScriptClash.{scripts-clash}
 use Rattle.place_core.specs.page.References.{Reference}
-use Rattle.place_core.specs.page.States.{LexState, AttributeValue, BeforeAttributeValue}
+use Rattle.place_core.specs.page.States.{LexState, AttributeValue, BeforeAttributeValue, InContent, InLanguage, Pending}
 use Rattle.place_core.specs.page.Tags.{Quoting, Tag, ValueOf, ValueState, OfScript}
 use Rattle.place_core.specs.place.Errors.{PathRefusal, nothing_read, path_refusal}
 use Rattle.place_core.specs.place.LanguagePlaces.{IsValidJs, both_senses, joined_js}
@@ -19,6 +19,7 @@ use Rattle.place_core.specs.declared.body.Body.{Body}
 use Rattle.place_core.specs.declared.body.Body.TheVariants as body
 use Rattle.place_core.specs.declared.code.Code.{Code}
 use Rattle.place_core.specs.declared.code.Code.TheVariants as code
+use Rattle.place_core.specs.declared.element.Element.{Element}
 use Rattle.place_core.specs.declared.js.Js.{Js}
 use Rattle.place_core.specs.declared.js.Js.TheVariants as js
 use Rattle.place_core.specs.declared.kind.Kind.TheVariants as kind
@@ -33,8 +34,8 @@ use Rattle.html_step.specs.Steps.{after_text, stepped}
 use Rattle.html_step.proofs.OneTexts.{Says, at-place, one-text, says}
 use Rattle.html_step.proofs.PlaceParts.{below-value, value-below}
 use Rattle.html_step.proofs.ScanOrder.{begun-valid}
-use Rattle.html_step.proofs.ScriptBeside.{BesideEither, beside_at, either-accepts, either_apart}
-use Rattle.html_step.proofs.ScriptEither.{EitherPath, KeepsJs, either-below, either-path, either_js, js_senses, with_js}
+use Rattle.html_step.proofs.ScriptBeside.{BesideEither, beside_at, beside_place, either-accepts, either_apart}
+use Rattle.html_step.proofs.ScriptEither.{EitherElement, EitherPath, KeepsJs, above-js, above-value, either-below, either-element, either-path, either_js, js_senses, with_js}
 use Rattle.html_step.proofs.ScriptOrder.{below-js, js-below, script-start-valid}
 use Rattle.html_step.proofs.ScriptReads.{nil-fits}
 use Rattle.html_step.proofs.WholeTexts.{grows-from, grows-text, text-steps}
@@ -63,22 +64,34 @@ senses-above js.Dq j k h = absurd k
 senses-above js.Sq j k h = absurd k
 senses-above (js.Regexp x) j k h = absurd k
 
-js-one : (i j : Js) → body.Js i ≡ body.Js j → i ≡ j
-js-one i j e = cc
+-- the place of a script: of a value, or of the element
+abbrev body_js : Body → Option Js
+body_js (body.Js j) = Some j
+body_js b = None
 
-value-one : (v w : ValuePlace) → place.Value v ≡ place.Value w → v ≡ w
-value-one v w e = cc
+abbrev place_js : Place → Option Js
+place_js (place.Value v) = body_js v.body
+place_js (place.Script j) = Some j
+place_js p = None
 
 -- the place, if it is one of a script, has this sense
 abbrev HasSense : Place → Sense → Type 0
-HasSense p x = (w : ValuePlace) (j : Js) → p ≡ place.Value w → w.body ≡ body.Js j → both_senses (script_senses x) (js_senses j) ≡ js_senses j
+HasSense p x = (j : Js) → place_js p ≡ Some j → both_senses (script_senses x) (js_senses j) ≡ js_senses j
+
+sense-at : (p : Place) (x : Sense) (i : Js) → place_js p ≡ Some i → both_senses (script_senses x) (js_senses i) ≡ js_senses i → HasSense p x
+sense-at p x i d h j e = subst (λ (z : Js). both_senses (script_senses x) (js_senses z) ≡ js_senses z) (one_value i j (sym d ∙ e)) h
+
+is-script : (p : Place) (w : ValuePlace) (j : Js) → p ≡ place.Value w → w.body ≡ body.Js j → place_js p ≡ Some j
+is-script p w j e b = ap place_js e ∙ ap body_js b
+
+below-sense : (c j : Js) (x : Sense) → KeepsJs c → js_senses c ≡ script_senses x → joined_js c j ≡ Some j → both_senses (script_senses x) (js_senses j) ≡ js_senses j
+below-sense c j x k e h = ap (λ (z : Senses). both_senses z (js_senses j)) (sym e) ∙ (senses-above c j k h).0
 
 within-sense : (p : Place) (s : LexState ValueState) (x : Sense) → EitherPath p s x → HasSense p x
-within-sense p s x e w j i b =
-    let same = value-one e.above w (sym e.is ∙ i) in
-    let all : e.all ≡ j = js-one e.all j (sym e.script ∙ ap (λ (v : ValuePlace). v.body) same ∙ b) in
-    subst (λ (z : Js). both_senses (script_senses x) (js_senses z) ≡ js_senses z) all
-    (ap (λ (z : Senses). both_senses z (js_senses e.all)) (sym e.senses) ∙ (senses-above e.mine e.all e.keeps e.in_order).0)
+within-sense p s x e = sense-at p x e.all (is-script p e.above e.all e.is e.script) (below-sense e.mine e.all x e.keeps e.senses e.in_order)
+
+element-sense : (p : Place) (s : LexState ValueState) (x : Sense) → EitherElement p s x → HasSense p x
+element-sense p s x e = sense-at p x e.all (ap place_js e.is) (below-sense e.mine e.all x e.keeps e.senses e.in_order)
 
 abbrev begun_js : Js
 begun_js = js.Code (script_senses sense.Re) script_no_tails
@@ -87,14 +100,19 @@ abbrev begun_value : Tag → ValuePlace
 begun_value t = record { tag = t.tag; typed = t.typed; quotes = unbegun; body = body.Js begun_js }
 
 begins-sense : (t : Tag) (p : Place) → IsIn p (BeforeAttributeValue t kind.Script) → HasSense p sense.Re
-begins-sense t p i w j e b =
+begins-sense t p i =
     let own : place.Value (begun_value t) ≡ i.own = one_value (place.Value (begun_value t)) i.own i.stands in
-    let h : Below (place.Value (begun_value t)) (place.Value w) = subst (λ (z : Place). Below (place.Value (begun_value t)) z) e (subst (λ (z : Place). Below z p) (sym own) i.below) in
-    let l = below-value (begun_value t) w h in
-    (senses-above begun_js j tt (js-below begun_js j (subst (λ (z : Body). joined_bodies (body.Js begun_js) z ≡ Some z) b l.body))).0
+    let h : Below (place.Value (begun_value t)) p = subst (λ (z : Place). Below z p) (sym own) i.below in
+    let w = above-value (begun_value t) p h in
+    let l = below-value (begun_value t) w.0 (subst (Below (place.Value (begun_value t))) w.1 h) in
+    let j = above-js begun_js w.0.body l.body in
+    sense-at p sense.Re j.0 (is-script p w.0 j.0 w.1 j.1)
+    (senses-above begun_js j.0 tt (js-below begun_js j.0 (subst (λ (z : Body). joined_bodies (body.Js begun_js) z ≡ Some z) j.1 l.body))).0
 
 path-sense : (p : Place) (s : LexState ValueState) (x : Sense) → IsIn p s → slash_sense s ≡ Some x → HasSense p x
 path-sense p (AttributeValue q t (ValueOf (OfScript v)) r) x i e = within-sense p (AttributeValue q t (ValueOf (OfScript v)) r) x (either-path p q t v r x i e)
+path-sense p (InContent d (InLanguage (OfScript v)) h) x i e =
+    element-sense p (InContent d (InLanguage (OfScript v)) h) x (either-element p d v h x i e)
 path-sense p (BeforeAttributeValue t kind.Script) x i e = subst (HasSense p) (one_value sense.Re x e) (begins-sense t p i)
 path-sense p _ x i e = absurd (none_some x e)
 
@@ -136,7 +154,7 @@ slash-within bytes p q s x v h e re div =
     let valid : IsValid (place.Value above) = subst IsValid is v in
     let order = senses-above e.mine j e.keeps e.in_order in
     let differ : script_senses_differ (script_scan_start j).senses ≡ true =
-    ap script_senses_differ order.1 ∙ both-differ (js_senses j) (re w j e.is e.script) (div w j e.is e.script) in
+    ap script_senses_differ order.1 ∙ both-differ (js_senses j) (re j (is-script p w j e.is e.script)) (div j (is-script p w j e.is e.script)) in
     let beside : BesideEither (At (place.Value (with_js w i))) (At (place.Value above)) =
     beside_at w i j (either_apart (script-start-valid j valid.1) (scripts-clash.start j) differ (either-below e.mine j e.keeps e.in_order)) in
     let steps : stepped 0 nothing_read bytes (At (place.Value above)) ≡ Ok q =
@@ -149,6 +167,23 @@ slash-within bytes p q s x v h e re div =
     (begun-valid e.own.quotes e.begun, either-valid e.mine e.keeps) below a.1 in
     not-refused-by bytes (either_slash s) (stepped 0 nothing_read bytes (At own)) g.0 g.1
     (says bytes 0 nothing_read (either_slash s) (At own) (at-place (either_slash s) own e.stands) (nil-fits (either_slash s)))
+
+slash-in-element : (bytes : List ℕ) (p q : Place) (s : LexState ValueState) (x : Sense) → IsValid p → after_text bytes p ≡ Ok q → EitherElement p s x
+    → HasSense p sense.Re → HasSense p sense.Div → path_refusal bytes (either_slash s) ≡ None
+slash-in-element bytes p q s x v h e re div =
+    let j = e.all in
+    let i = either_js e.mine in
+    let valid : IsValid (place.Script j) = subst IsValid e.is v in
+    let order = senses-above e.mine j e.keeps e.in_order in
+    let differ : script_senses_differ (script_scan_start j).senses ≡ true =
+    ap script_senses_differ order.1 ∙ both-differ (js_senses j) (re j (ap place_js e.is)) (div j (ap place_js e.is)) in
+    let beside : BesideEither (At (place.Script i)) (At (place.Script j)) =
+    beside_place i j (either_apart (script-start-valid j valid) (scripts-clash.start j) differ (either-below e.mine j e.keeps e.in_order)) in
+    let steps : stepped 0 nothing_read bytes (At (place.Script j)) ≡ Ok q =
+    subst (λ (z : Place). stepped 0 nothing_read bytes (At z) ≡ Ok q) e.is (text-steps bytes p q h) in
+    let a = either-accepts bytes 0 nothing_read 0 nothing_read (At (place.Script i)) (At (place.Script j)) q refl valid beside steps in
+    not-refused-by bytes (either_slash s) (stepped 0 nothing_read bytes (At (place.Script i))) a.0 a.1
+    (says bytes 0 nothing_read (either_slash s) (At (place.Script i)) (at-place (either_slash s) (place.Script i) e.stands) (nil-fits (either_slash s)))
 
 no-refusal : (o : Option PathRefusal) (r : PathRefusal) → o ≡ None → o ≡ Some r → ⊥
 no-refusal o r e h = none_some r (sym e ∙ h)
@@ -165,10 +200,23 @@ slash-script bytes p q z t v u r e at valid h i j c =
     (parts-differ (sense_at_text v.at) (slash_sense r) c.part))
     c.refused
 
+slash-element : (bytes : List ℕ) (p q : Place) (d : Element) (v : ScriptState) (u : Pending) (r : LexState ValueState) (e : Code) (at : ℕ) → IsValid p
+    → after_text bytes p ≡ Ok q → IsIn p (InContent d (InLanguage (OfScript v)) u) → IsIn p r
+    → ClashesSlash bytes (InContent d (InLanguage (OfScript v)) u) r e at → ⊥
+slash-element bytes p q d v u r e at valid h i j c =
+    let s = InContent d (InLanguage (OfScript v)) u in
+    no-refusal (path_refusal bytes (either_slash s)) (record { code = code.SlashAmbig; at = at; shown = c.shown })
+    (⊎_elim
+    (λ k. slash-in-element bytes p q s sense.Re valid h (either-element p d v u sense.Re i k.0) (path-sense p s sense.Re i k.0) (path-sense p r sense.Div j k.1))
+    (λ k. slash-in-element bytes p q s sense.Div valid h (either-element p d v u sense.Div i k.0) (path-sense p r sense.Re j k.1) (path-sense p s sense.Div i k.0))
+    (parts-differ (sense_at_text v.at) (slash_sense r) c.part))
+    c.refused
+
 -- where a text is accepted no two are refused together at a slash of it
 pub slash-accepted : (bytes : List ℕ) (p q : Place) (s r : LexState ValueState) (e : Code) (at : ℕ) → IsValid p → after_text bytes p ≡ Ok q → IsIn p s → IsIn p r
     → ClashesSlash bytes s r e at → ⊥
 slash-accepted bytes p q (AttributeValue z t (ValueOf (OfScript v)) u) r e at valid h i j c = slash-script bytes p q z t v u r e at valid h i j c
+slash-accepted bytes p q (InContent d (InLanguage (OfScript v)) u) r e at valid h i j c = slash-element bytes p q d v u r e at valid h i j c
 slash-accepted bytes p q (BeforeAttributeValue t k) r e at valid h i j c =
     let s = BeforeAttributeValue t k in
     let g = grows-text bytes i.own p q i.valid valid i.below h in

@@ -1,24 +1,23 @@
 -- From the scan state of a path in a script, a byte and the end of a text are as on the path.
-use Rattle.std.proofs.Common.{◌≡◌, ◌<◌, ◌≤◌, ℕ, ◌+◌, ◌-◌, Bool, true, false, List, [], ◌∷◌, length, Option, Some, None, if◌then◌else◌, refl, sym, ap, subst, ◌∙◌}
-use Rattle.std.specs.Prelude.{⊤, ◌||◌, ◌&&◌}
+use Rattle.std.proofs.Common.{◌≡◌, ℕ, ◌+◌, ◌-◌, Bool, true, false, List, [], ◌∷◌, length, Option, Some, None, if◌then◌else◌, refl, sym, ap, subst, ◌∙◌}
+use Rattle.std.specs.Prelude.{◌||◌, ◌&&◌}
 use Rattle.std.specs.Option.{option_map}
 use Rattle.js_lexer.specs.Holes.{script_after_cut}
-use Rattle.js_lexer.specs.Refusals.{Cause, is_cut_markup, script_refuses_cut, within_escape}
+use Rattle.js_lexer.specs.Refusals.{Cause, is_cut_markup, within_escape}
 use Rattle.js_lexer.specs.Spots.{CodeSpot, MinusTail, RegexpSpot, Spot, StringSpot, script_spot, shown_at, spot_at, spot_before, tail_of, unless_within}
 use Rattle.js_lexer.specs.States.{At as ScriptAt, Code, Word, Number, Pluses, Minuses, Slash, LineComment, BlockComment, InString, InRegexp, InTemplate, TooDeep, ScriptState, Trail, script_start}
 use Rattle.js_lexer.specs.Steps.{sense_if_odd}
 use Rattle.js_lexer.specs.Trails.{is_empty}
 use Rattle.js_lexer.specs.declared.sense.Sense.TheVariants as sense
 use Rattle.js_step.proofs.ScriptPaths.{script-paths-are-scanned}
-use Rattle.js_step.specs.ScriptScans.{ScriptScan, script_scan_cut_error, script_scan_place, script_scan_shown, script_scan_start}
-use Rattle.place_core.proofs.Semilattices.{none_some, one_value}
+use Rattle.js_step.specs.ScriptScans.{ScriptScan, script_scan_cut_error, script_scan_shown, script_scan_start}
+use Rattle.place_core.proofs.Semilattices.{none_some}
 use Rattle.place_core.specs.page.Classes.{Class, White, QuotationMark, Apostrophe, LessThan, EqualsSign, GreaterThan, GraveAccent, class_of, is_equals_sign}
-use Rattle.place_core.specs.place.Errors.{FedByte, PathCause, PathRefusal, at_hand, bare_error, byte_error, content_error, cut_places, fed_error, fed_places, first_byte_error, first_cause, first_places, flushed_error, is_written, language_error, place_before_bytes, placed_bytes, places_with, quotes_error, script_fed, script_fed_refusal, script_refusal_at, value_before}
+use Rattle.place_core.specs.place.Errors.{PathCause, at_hand, bare_error, byte_error, cut_places, fed_error, fed_places, first_byte_error, first_cause, first_places, flushed_error, is_written, language_error, place_before_bytes, placed_bytes, places_with, quotes_error, script_fed, script_fed_refusal, script_refusal_at, value_before}
 use Rattle.place_core.specs.page.Html.{next, next_before_value, ends_value}
-use Rattle.place_core.specs.page.Paths.{at_cut}
 use Rattle.place_core.specs.page.References.{Reference, settled, undone_byte, as_it_stands, Closed, Open, Form, ReferenceStep, Grows, Closes, Breaks, turn, flushed, next_reference}
 use Rattle.place_core.specs.place.ScriptParts.{script_body, script_body_before, script_may_begin_text, script_place}
-use Rattle.place_core.specs.place.StatePlaces.{placed, quotes_at, unbegun, value_body, value_body_before, value_spot}
+use Rattle.place_core.specs.place.StatePlaces.{quotes_at, unbegun, value_body, value_body_before, value_spot}
 use Rattle.place_core.specs.page.States.{Template, BeforeAttributeValue, AttributeValue}
 use Rattle.place_core.specs.page.Tags.{Tag, Value, ValueOf, Deciding, ValueState, OfKind, OfUrl, OfStyle, OfScript, languages, feeding, feed_bytes, refuses_cut_of, script_code, with_bytes, Quoting, DoubleQuoted, SingleQuoted, Unquoted, cut_value}
 use Rattle.place_core.specs.declared.body.Body.{Body}
@@ -29,9 +28,9 @@ use Rattle.place_core.specs.declared.place.Place.{Place}
 use Rattle.place_core.specs.declared.place.Place.TheVariants as place
 use Rattle.place_core.specs.declared.quotes.Quotes.{Quotes}
 use Rattle.place_core.specs.declared.value_place.ValuePlace.{ValuePlace}
-use Rattle.html_scan.specs.Scans.{Scan, At, InScript, all_scripts, quoted_error, scan_next, scan_place, scan_script_cut_refusal, scan_shown, script_before_turn, script_cause, script_fed_byte, script_fed_next, script_feeding, script_scan_before, script_value_next, value_next, with_body, with_script}
+use Rattle.html_scan.specs.Scans.{Scan, At, InScript, all_scripts, quoted_error, scan_next, scan_shown, script_before_turn, script_cause, script_fed_byte, script_fed_next, script_feeding, script_value_next, value_next, with_body, with_script}
 use Rattle.html_step.proofs.FedAlike.{beside, fed-alike, fed-beside, first-byte-alike, first-caused, language-alike, undone-beside}
-use Rattle.html_step.proofs.PathScans.{Agrees, Ends, FitsFed, IsShown, ScriptsAgree, TakesEnd, WhereScanned, none-at-hand, same-with, scanned, script_there, script_unless_placed, script_value_scanned, some, tag-ends, value_scanned, with-fed}
+use Rattle.html_step.proofs.PathScans.{Agrees, Ends, IsShown, ScriptsAgree, TakesEnd, WhereScanned, same-with, scanned, script_there, script_unless_placed, script_value_scanned, some, tag-ends, value_scanned, with-fed}
 use Rattle.html_step.proofs.ScriptPaths.{IsScriptAt, begins-scanned, deep-place, empty_js, ending-refusal, first-unrefused, kept_script_scanned, one-script, one-stand, places-refusal, refusal-none, script_value, scripts-alike, some-fed, with-no-body}
 use Rattle.html_step.proofs.StylePaths.{has-value, quoted-at}
 use Rattle.url_lexer.specs.Triples.{NoTriple}
@@ -68,7 +67,7 @@ script-next DoubleQuoted t s n r c b i l e = script-goes DoubleQuoted t s n r c 
 script-next SingleQuoted t s n r Apostrophe b i l e = rw (same-with t (settled true r) (OfScript s)) refl
 script-next SingleQuoted t s n r c b i l e = script-goes SingleQuoted t s n r c b i l
 script-next Unquoted t s n r White b i l e = rw (same-with t (settled true r) (OfScript s)) refl
-script-next Unquoted t s n r GreaterThan b i l e = rw (same-with t (settled true r) (OfScript s)) (tag-ends t.tag (none-at-hand (content_error t.tag) e))
+script-next Unquoted t s n r GreaterThan b i l e = rw (same-with t (settled true r) (OfScript s)) (tag-ends t.tag)
 script-next Unquoted t s n r QuotationMark b i l e = absurd (some _ e)
 script-next Unquoted t s n r Apostrophe b i l e = absurd (some _ e)
 script-next Unquoted t s n r LessThan b i l e = absurd (some _ e)
@@ -163,7 +162,7 @@ begin-script : (t : Tag) (c : Class) (b : ℕ) → first_byte_error script_feedi
 begin-script t White b l n = refl
 begin-script t QuotationMark b l n = refl
 begin-script t Apostrophe b l n = refl
-begin-script t GreaterThan b l n = tag-ends t.tag (none-at-hand _ n)
+begin-script t GreaterThan b l n = tag-ends t.tag
 begin-script t LessThan b l n = absurd (some _ n)
 begin-script t EqualsSign b l n = absurd (some _ n)
 begin-script t GraveAccent b l n = absurd (some _ n)
@@ -252,7 +251,7 @@ cut-none v n r e =
 
 -- the place that is shown
 spot-shown : (t : Tag) (q : Quoting) (o : Option Spot)
-    → value_spot t (quotes_at q) (option_map (λ (p : Spot). body.Js (script_place p)) o)
+    → value_spot t (quotes_at q) (option_map body.Js (option_map script_place o))
     ≡ option_map (λ (j : Js). with_body (script_value t (quotes_at q)) (body.Js j)) (option_map script_place o)
 spot-shown t q (Some p) = refl
 spot-shown t q None = refl
@@ -334,13 +333,13 @@ before-by true false o u p h e = absurd (none_some p e)
 before-by false y o u p h e = absurd (none_some p e)
 
 body-by : (x : Bool) (o u : Option Spot) (y : Body) → ((p : Spot) → o ≡ Some p → u ≡ Some p)
-    → (if x then option_map (λ (p : Spot). body.Js (script_place p)) o else None) ≡ Some y
-    → option_map (λ (p : Spot). body.Js (script_place p)) u ≡ Some y
-body-by true (Some p) u y h e = ap (option_map (λ (x : Spot). body.Js (script_place x))) (h p refl) ∙ e
+    → option_map body.Js (if x then option_map script_place o else None) ≡ Some y
+    → option_map body.Js (option_map script_place u) ≡ Some y
+body-by true (Some p) u y h e = ap (λ (z : Option Spot). option_map body.Js (option_map script_place z)) (h p refl) ∙ e
 body-by true None u y h e = absurd (none_some y e)
 body-by false o u y h e = absurd (none_some y e)
 
-placed-shown : (s : ScriptState) (j : Js) → script_body s ≡ Some (body.Js j) → script_body_before s ≡ Some (body.Js j)
+pub placed-shown : (s : ScriptState) (j : Js) → script_body s ≡ Some (body.Js j) → script_body_before s ≡ Some (body.Js j)
 placed-shown s j e =
     body-by (script_may_begin_text s) (script_spot s) (spot_before s) (body.Js j)
     (λ p h. before-by (is_empty s.literals) (is_empty s.held) (spot_at s.at s.trail) (shown_at s.at s.trail) p (at-shown s.at s.trail p) h) e

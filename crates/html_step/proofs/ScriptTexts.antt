@@ -1,5 +1,5 @@
 -- What shows that a text is refused in a script, from where a text begins: at a place of a script, and before the byte that is refused.
-use Rattle.std.proofs.Common.{◌≡◌, ℕ, ◌+◌, Bool, true, false, List, [], ◌∷◌, Option, Some, None, Result, Ok, Err, refl, sym, ap, ◌∙◌, subst, ◌⊎◌, inl, inr, ◌&&◌, ◌||◌, if◌then◌else◌, option_map}
+use Rattle.std.proofs.Common.{◌≡◌, ℕ, ◌+◌, Bool, true, false, List, [], ◌∷◌, Option, Some, None, Result, Err, refl, sym, ap, ◌∙◌, subst, inl, inr, ◌&&◌, if◌then◌else◌, option_map}
 use Rattle.js_lexer.specs.Refusals.{Cause}
 use Rattle.js_lexer.specs.declared.sense.Sense.{Sense}
 use Rattle.js_lexer.specs.declared.sense.Sense.TheVariants as sense
@@ -11,7 +11,7 @@ use Rattle.js_step.proofs.ValidScripts.{empty-texts-keep-scripts}
 use Rattle.place_core.specs.page.Html.{ends_value}
 use Rattle.place_core.specs.page.References.{Closed}
 use Rattle.place_core.specs.page.Classes.{class_of, Class, White, QuotationMark, Apostrophe, GreaterThan}
-use Rattle.place_core.specs.page.States.{LexState, AttributeValue, BeforeAttributeValue}
+use Rattle.place_core.specs.page.States.{LexState, AttributeValue, BeforeAttributeValue, InContent, InLanguage}
 use Rattle.place_core.specs.page.Tags.{ValueOf, ValueState, OfScript, Unquoted}
 use Rattle.place_core.specs.place.Errors.{PathRefusal, TextRead, nothing_read, FedByte, PathCause, at_hand, at_value_end, fed_places, first_byte_error, first_cause, first_places, language_error, path_refusal, script_places_refusal, script_refusal_at, value_error, places_with}
 use Rattle.place_core.specs.place.Membership.{IsIn, Bears}
@@ -31,14 +31,14 @@ use Rattle.place_core.specs.declared.member.Member.TheVariants as member
 use Rattle.place_core.specs.declared.place.Place.{Place}
 use Rattle.place_core.specs.declared.place.Place.TheVariants as place
 use Rattle.place_core.specs.declared.value_place.ValuePlace.{ValuePlace}
-use Rattle.html_scan.specs.Scans.{Scan, At, scan_error, scan_next, all_scripts, begun_script_refusal, body_cause, ends_quoted, quoted_error, quoted_places, script_fed_byte, script_feeding, script_step_refusal, value_cause}
+use Rattle.html_scan.specs.Scans.{Scan, At, scan_next, all_scripts, begun_script_refusal, body_cause, ends_quoted, quoted_error, quoted_places, script_fed_byte, script_feeding, script_step_refusal, value_cause}
 use Rattle.js_step.proofs.ScriptClash.{scripts-clash}
 use Rattle.html_step.proofs.ScriptQuotes.{script-takes-quotes}
 use Rattle.html_step.specs.Laws.{EvidenceData, apart, one, two}
 use Rattle.html_step.specs.Origins.{begun_script_shows, bytes_of_places, first_shown, script_back, script_value_ends, script_evidence, script_origin, script_told_shown}
 use Rattle.html_step.specs.Steps.{scan_read_behind, stepped, unless_script_refused}
 use Rattle.html_step.proofs.OneTexts.{Says, at-place, says}
-use Rattle.html_step.proofs.ScriptEither.{EitherPath, either-below, either-has-brace, either-path, either_js, with_js}
+use Rattle.html_step.proofs.ScriptEither.{EitherPath, either-below, either-has-brace, either-path, either_js, with_js, EitherElement, either-element}
 use Rattle.html_step.proofs.ScriptReads.{nil-fits}
 use Rattle.html_step.proofs.SlashPaths.{bears-div, bears-re, script-above}
 use Rattle.html_step.proofs.SlashCodes.{SlashTold, starts-fit, step-code, told-slash}
@@ -51,8 +51,8 @@ use Rattle.html_step.proofs.ScriptEnds.{begun-none}
 use Rattle.html_step.proofs.ScriptFrom.{itself-origin}
 use Rattle.html_step.proofs.ScriptOrder.{script-start-valid}
 use Rattle.html_step.proofs.ScriptValues.{has-place, in-scan, in-set, js-of, out-scan, place-has}
-use Rattle.html_step.proofs.ScanOrder.{ScanValid, HasBegun, ScanHas, bare-parts}
-use Rattle.html_step.proofs.ScriptTold.{ScriptShownBytes, ShownSlash, BraceBelow, brace_at, back-of, body_differs, both-true, ends-shown, ends-with-brace, refused-same, shown-from, step-told}
+use Rattle.html_step.proofs.ScanOrder.{ScanValid, ScanHas, bare-parts}
+use Rattle.html_step.proofs.ScriptTold.{ScriptShownBytes, ShownSlash, BraceBelow, brace_at, back-of, body_differs, both-true, ends-shown, ends-with-brace, refused-same, shown-from, step-told, brace_at_element}
 
 no : false ≡ true → ⊥
 no e = cc
@@ -118,13 +118,13 @@ quotes-if (quotes.Bare x) quotes.Sq k n c b j e h = absurd (none_some quotes.Sq 
 
 -- where the script refuses a byte that is fed, no quotation mark is
 told-byte : (b : ℕ) (ends : ScriptScan → Option Cause) (n : ScriptScan) (z : EvidenceData) → script_scan_error false n b ≡ None
-    → script_told_shown ends (b ∷ []) n ≡ Some z → script_told_shown ends [] (script_fed_byte n b) ≡ Some z
+    → script_told_shown false ends (b ∷ []) n ≡ Some z → script_told_shown false ends [] (script_fed_byte n b) ≡ Some z
 told-byte b ends n z e t =
     sym (ap (λ (o : Option Cause). first_shown (option_map (λ x. script_evidence (script_shown_by n (script_split_shows n b) x.refusal)) o)
-    (script_told_shown ends [] (script_fed_byte n b))) e) ∙ t
+    (script_told_shown false ends [] (script_fed_byte n b))) e) ∙ t
 
 bare-told : (x : Bool) (c : Class) (b : ℕ) (j : Js) (z : EvidenceData) → c ≡ class_of b → IsQuote c
-    → script_told_shown (script_value_ends (x && ends_value Unquoted c)) (bytes_of_places (fed_if x 0 c b)) (script_scan_start j) ≡ Some z → ⊥
+    → script_told_shown false (script_value_ends (x && ends_value Unquoted c)) (bytes_of_places (fed_if x 0 c b)) (script_scan_start j) ≡ Some z → ⊥
 bare-told false QuotationMark b j z k i t = none_some z t
 bare-told false Apostrophe b j z k i t = none_some z t
 bare-told true QuotationMark b j z k i t =
@@ -134,14 +134,14 @@ bare-told true Apostrophe b j z k i t =
 bare-told x _ b j z k i t = absurd i
 
 start-told : (q : Quotes) (c : Class) (b : ℕ) (j : Js) (z : EvidenceData) → c ≡ class_of b → IsQuote c
-    → script_told_shown (script_value_ends (ends_quoted q c)) (bytes_of_places (quoted_places q 0 Closed c b)) (script_scan_start j) ≡ Some z → (y : Bare) → q ≡ quotes.Bare y → ⊥
+    → script_told_shown false (script_value_ends (ends_quoted q c)) (bytes_of_places (quoted_places q 0 Closed c b)) (script_scan_start j) ≡ Some z → (y : Bare) → q ≡ quotes.Bare y → ⊥
 start-told q c b j z k i t y d =
     bare-told y.uq c b j z k i
-    (subst (λ (p : Quotes). script_told_shown (script_value_ends (ends_quoted p c)) (bytes_of_places (quoted_places p 0 Closed c b)) (script_scan_start j) ≡ Some z) d t)
+    (subst (λ (p : Quotes). script_told_shown false (script_value_ends (ends_quoted p c)) (bytes_of_places (quoted_places p 0 Closed c b)) (script_scan_start j) ≡ Some z) d t)
 
 -- a byte is refused that is fed, not the end
 start-error : (q : Quotes) (c : Class) (b : ℕ) (j : Js) (z : EvidenceData) (o : Option PathCause) → quoted_error script_feeding q (script_scan_start j) Closed c b ≡ o
-    → script_told_shown (script_value_ends (ends_quoted q c)) (bytes_of_places (quoted_places q 0 Closed c b)) (script_scan_start j) ≡ Some z → (e : PathCause) × (o ≡ Some e)
+    → script_told_shown false (script_value_ends (ends_quoted q c)) (bytes_of_places (quoted_places q 0 Closed c b)) (script_scan_start j) ≡ Some z → (e : PathCause) × (o ≡ Some e)
 start-error q c b j z (Some e) i t = (e, refl)
 start-error q c b j z None i t =
     absurd (none_some z (sym (step-told q 0 [] (script_scan_start j) Closed c b
@@ -153,8 +153,8 @@ first-some o None x y e i h = absurd (none_some e h)
 
 start-alike : (k : ℕ) (since : TextRead) (b : ℕ) (bs : List ℕ) (u v : ValuePlace) (i j : Js) (e : PathRefusal) (z : EvidenceData) → u.body ≡ body.Js i → v.body ≡ body.Js j
     → joined_quotes u.quotes v.quotes ≡ Some v.quotes
-    → Alike (bytes_of_places (quoted_places v.quotes 0 Closed (class_of b) b)) (script_value_ends (ends_quoted v.quotes (class_of b))) (script_scan_start i) (script_scan_start j)
-    → script_told_shown (script_value_ends (ends_quoted v.quotes (class_of b))) (bytes_of_places (quoted_places v.quotes 0 Closed (class_of b) b)) (script_scan_start j) ≡ Some z
+    → Alike false (bytes_of_places (quoted_places v.quotes 0 Closed (class_of b) b)) (script_value_ends (ends_quoted v.quotes (class_of b))) (script_scan_start i) (script_scan_start j)
+    → script_told_shown false (script_value_ends (ends_quoted v.quotes (class_of b))) (bytes_of_places (quoted_places v.quotes 0 Closed (class_of b) b)) (script_scan_start j) ≡ Some z
     → stepped k since (b ∷ bs) (At (place.Value v)) ≡ Err e → stepped k since (b ∷ bs) (At (place.Value u)) ≡ Err e
 start-alike k since b bs u v i j e z d f l a t h =
     let c = class_of b in
@@ -163,7 +163,7 @@ start-alike k since b bs u v i j e z d f l a t h =
     let q = v.quotes in
     let xs = quoted_places q k Closed c b in
     let ends = script_value_ends (ends_quoted q c) in
-    let here : Alike (bytes_of_places xs) ends n m = subst (λ (bytes : List ℕ). Alike bytes ends n m) (sym (same-quoted-bytes q k Closed c b)) a in
+    let here : Alike false (bytes_of_places xs) ends n m = subst (λ (bytes : List ℕ). Alike false bytes ends n m) (sym (same-quoted-bytes q k Closed c b)) a in
     let same = quotes-if u.quotes q k n c b l (empty-texts-keep-scripts i).end_error (λ w x y g o. absurd (start-told q c b j z refl w t y o)) in
     let some = start-error q c b j z (quoted_error script_feeding q m Closed c b) refl t in
     let errors : quoted_error script_feeding u.quotes n Closed c b ≡ quoted_error script_feeding q m Closed c b = same.1 ∙ alike-quoted q k Closed c b ends n m here in
@@ -181,7 +181,7 @@ not-style j s e = cc
 
 at-code : (k : ℕ) (since : TextRead) (b : ℕ) (bs : List ℕ) (v : ValuePlace) (j : Js) (e : PathRefusal) (x y : Member) → v.body ≡ body.Js j
     → script_senses_differ (script_scan_start j).senses ≡ true
-    → script_told_shown (script_value_ends (ends_quoted v.quotes (class_of b))) (bytes_of_places (quoted_places v.quotes 0 Closed (class_of b) b)) (script_scan_start j) ≡ Some (two x y)
+    → script_told_shown false (script_value_ends (ends_quoted v.quotes (class_of b))) (bytes_of_places (quoted_places v.quotes 0 Closed (class_of b) b)) (script_scan_start j) ≡ Some (two x y)
     → stepped k since (b ∷ bs) (At (place.Value v)) ≡ Err e → e.code ≡ code.SlashAmbig
 at-code k since b bs v j e x y d differ t h =
     let c = class_of b in
@@ -195,7 +195,7 @@ at-code k since b bs v j e x y d differ t h =
 
 at-script-by : (k : ℕ) (since : TextRead) (b : ℕ) (bs : List ℕ) (v : ValuePlace) (j : Js) (e : PathRefusal) (z : EvidenceData) → v.body ≡ body.Js j
     → ScanValid (At (place.Value v))
-    → script_told_shown (script_value_ends (ends_quoted v.quotes (class_of b))) (bytes_of_places (quoted_places v.quotes 0 Closed (class_of b) b)) (script_scan_start j) ≡ Some z
+    → script_told_shown false (script_value_ends (ends_quoted v.quotes (class_of b))) (bytes_of_places (quoted_places v.quotes 0 Closed (class_of b) b)) (script_scan_start j) ≡ Some z
     → stepped k since (b ∷ bs) (At (place.Value v)) ≡ Err e
     → ScriptShownBytes k since (b ∷ bs) (At (place.Value v)) e (script_back (script_scan_start j) z)
 at-script-by k since b bs v j e (one y) d w t h =
@@ -204,7 +204,7 @@ at-script-by k since b bs v j e (one y) d w t h =
     let ends = script_value_ends (ends_quoted v.quotes c) in
     let fed = bytes_of_places (quoted_places v.quotes 0 Closed c b) in
     let x = script_origin m y in
-    let o = (told-one fed ends m y (ends-shown (ends_quoted v.quotes c)) (script-start-valid j (subst IsValidBody d w.1)) t).1 in (
+    let o = (told-one false fed ends m y (ends-shown (ends_quoted v.quotes c)) (script-start-valid j (subst IsValidBody d w.1)) t).1 in (
       place-has v j x d (in-scan v.typed v.quotes m x o.there),
       λ g i l p. below-at-value (λ (g : Scan). ScanValid g → ScanHas g x → stepped k since (b ∷ bs) g ≡ Err e) v
           (λ u n r s. let a = js-of u.body j r.1 (subst (λ (z : Body). joined_bodies u.body z ≡ Some z) d n.body) in
@@ -216,7 +216,7 @@ at-script-by k since b bs v j e (two x y) d w t h =
     let c = class_of b in
     let m = script_scan_start j in
     let ends = script_value_ends (ends_quoted v.quotes c) in
-    let o = told-two (bytes_of_places (quoted_places v.quotes 0 Closed c b)) ends m x y (script-start-valid j (subst IsValidBody d w.1)) (scripts-clash.start j) (ends-shown (ends_quoted v.quotes c)) (ends-with-brace (ends_quoted v.quotes c)) t in
+    let o = told-two false (bytes_of_places (quoted_places v.quotes 0 Closed c b)) ends m x y (script-start-valid j (subst IsValidBody d w.1)) (scripts-clash.start j) (ends-shown (ends_quoted v.quotes c)) (ends-with-brace (ends_quoted v.quotes c)) t in
     let first = ap (script_origin m) o.first ∙ itself-origin m member.SenseDiv o.div in
     let second = ap (script_origin m) o.other ∙ itself-origin m member.SenseRe o.re in
     record {
@@ -230,14 +230,14 @@ at-script-by k since b bs v j e (two x y) d w t h =
           (λ u i f l n s. start-alike k since b bs u v i j e (two x y) f d l (o.alike (script_scan_start i) n s) t h);
     }
 at-script-by k since b bs v j e apart d w t h =
-    told-apart (bytes_of_places (quoted_places v.quotes 0 Closed (class_of b) b)) (script_value_ends (ends_quoted v.quotes (class_of b))) (script_scan_start j) t
+    told-apart false (bytes_of_places (quoted_places v.quotes 0 Closed (class_of b) b)) (script_value_ends (ends_quoted v.quotes (class_of b))) (script_scan_start j) t
 
 at-body : (k : ℕ) (since : TextRead) (b : ℕ) (bs : List ℕ) (v : ValuePlace) (x : Body) (e : PathRefusal) (z : EvidenceData) → v.body ≡ x
     → ScanValid (At (place.Value v)) → begun_script_shows x v.quotes (class_of b) b ≡ Some z → stepped k since (b ∷ bs) (At (place.Value v)) ≡ Err e
     → ScriptShownBytes k since (b ∷ bs) (At (place.Value v)) e z
 at-body k since b bs v (body.Js j) e z d w t h =
     let m = script_scan_start j in
-    let told = script_told_shown (script_value_ends (ends_quoted v.quotes (class_of b))) (bytes_of_places (quoted_places v.quotes 0 Closed (class_of b) b)) m in
+    let told = script_told_shown false (script_value_ends (ends_quoted v.quotes (class_of b))) (bytes_of_places (quoted_places v.quotes 0 Closed (class_of b) b)) m in
     shown-from (ScriptShownBytes k since (b ∷ bs) (At (place.Value v)) e) m told z (back-of m told told z refl t) (λ x i. at-script-by k since b bs v j e x d w i h)
 at-body k since b bs v _ e z d w t h = absurd (none_some z t)
 
@@ -261,10 +261,22 @@ either-refused bytes p r s x e f =
     refused-says bytes (either_slash s) (stepped 0 nothing_read bytes g) r (f g (subst (λ (a : Place). BraceBelow g (At a)) (sym e.is) below))
     (says bytes 0 nothing_read (either_slash s) g (at-place (either_slash s) (place.Value u) e.stands) (nil-fits (either_slash s)))
 
+element-refused : (bytes : List ℕ) (p : Place) (r : PathRefusal) (s : LexState ValueState) (x : Sense) → EitherElement p s x
+    → ((g : Scan) → BraceBelow g (At p) → stepped 0 nothing_read bytes g ≡ Err r) → path_refusal bytes (either_slash s) ≡ Some r
+element-refused bytes p r s x e f =
+    let i = either_js e.mine in
+    let g = At (place.Script i) in
+    let below : BraceBelow g (At (place.Script e.all)) =
+    brace_at_element i e.all (either-below e.mine e.all e.keeps e.in_order) (either-has-brace e.mine e.keeps) in
+    refused-says bytes (either_slash s) (stepped 0 nothing_read bytes g) r (f g (subst (λ (a : Place). BraceBelow g (At a)) (sym e.is) below))
+    (says bytes 0 nothing_read (either_slash s) g (at-place (either_slash s) (place.Script i) e.stands) (nil-fits (either_slash s)))
+
 script-refused : (bytes : List ℕ) (p : Place) (r : PathRefusal) (s : LexState ValueState) → IsIn p s → slash_sense s ≡ Some sense.Div
     → ((g : Scan) → BraceBelow g (At p) → stepped 0 nothing_read bytes g ≡ Err r) → path_refusal bytes (either_slash s) ≡ Some r
 script-refused bytes p r (AttributeValue q t (ValueOf (OfScript v)) z) i e f =
     either-refused bytes p r (AttributeValue q t (ValueOf (OfScript v)) z) sense.Div (either-path p q t v z sense.Div i e) f
+script-refused bytes p r (InContent d (InLanguage (OfScript v)) h) i e f =
+    element-refused bytes p r (InContent d (InLanguage (OfScript v)) h) sense.Div (either-element p d v h sense.Div i e) f
 script-refused bytes p r (BeforeAttributeValue t kind.Script) i e f = absurd (re-div (one_value sense.Re sense.Div e))
   where
     re-div : sense.Re ≡ sense.Div → ⊥

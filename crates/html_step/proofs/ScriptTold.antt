@@ -1,21 +1,20 @@
 -- What shows that a text is refused in a value that is a script: at a byte, by what the script refuses of the bytes that it is fed or of its end, and at
 -- the end of the text.
-use Rattle.std.proofs.Common.{◌≡◌, ℕ, ◌+◌, ◌-◌, Bool, true, false, ◌||◌, List, [], ◌∷◌, length, Option, Some, None, Result, Ok, Err, option_map, if◌then◌else◌, refl, sym, ap, ◌∙◌, subst, ◌⊎◌, inl, inr, ◌&&◌}
+use Rattle.std.proofs.Common.{◌≡◌, ℕ, ◌+◌, ◌-◌, Bool, true, false, List, [], ◌∷◌, length, Option, Some, None, Result, Err, option_map, if◌then◌else◌, refl, sym, ap, ◌∙◌, subst, ◌&&◌}
 use Rattle.js_lexer.specs.Refusals.{Cause}
-use Rattle.js_step.specs.ScriptEvidence.{ShowsRefusals, script_scan_has, script_shown_by, IsScriptShownBy, ScriptClashes, script_with_brace, ScriptSensesFit}
+use Rattle.js_step.specs.ScriptEvidence.{ShowsRefusals, script_shown_by, IsScriptShownBy, script_with_brace, ScriptSensesFit}
 use Rattle.js_step.specs.ScriptScanOrder.{ScriptScanBelow}
 use Rattle.js_step.specs.ScriptOrigins.{script_set_has}
-use Rattle.js_step.specs.ScriptScans.{ScriptScan, script_scan_cut_error, script_scan_end_error, script_scan_error, script_scan_start, script_senses_differ}
-use Rattle.js_step.specs.ScriptValidity.{IsScriptScan}
+use Rattle.js_step.specs.ScriptScans.{ScriptScan, script_scan_cut_error, script_scan_end_error, script_scan_start, script_senses_differ}
 use Rattle.js_step.proofs.ScriptEvidence.{scripts-shown}
 use Rattle.place_core.specs.page.Classes.{Class, class_of}
-use Rattle.place_core.specs.page.References.{Form, Reference, Closed, Open, as_it_stands}
+use Rattle.place_core.specs.page.References.{Reference, as_it_stands}
+use Rattle.place_core.specs.page.States.{Pending}
 use Rattle.place_core.specs.page.Tags.{feed_bytes}
-use Rattle.place_core.specs.place.Errors.{FedByte, PathCause, PathRefusal, TextRead, at_hand, at_value_end, cut_places, first_cause, first_path_refusal, is_told_at_node_end, script_fed, script_fed_refusal, script_refusal_at, value_end_cause, value_error, places_with}
+use Rattle.place_core.specs.place.Errors.{PathCause, PathRefusal, TextRead, at_hand, at_value_end, cut_places, first_cause, first_path_refusal, is_told_at_node_end, script_fed, script_fed_refusal, script_refusal_at, value_error, places_with}
 use Rattle.place_core.specs.place.Places.{joined_quotes}
 use Rattle.place_core.specs.declared.body.Body.{Body}
 use Rattle.place_core.specs.declared.body.Body.TheVariants as body
-use Rattle.place_core.specs.declared.code.Code.{Code}
 use Rattle.place_core.specs.declared.code.Code.TheVariants as code
 use Rattle.place_core.specs.declared.js.Js.{Js}
 use Rattle.place_core.specs.declared.member.Member.{Member}
@@ -26,7 +25,7 @@ use Rattle.place_core.specs.declared.quotes.Quotes.{Quotes}
 use Rattle.place_core.specs.declared.quotes.Quotes.TheVariants as quotes
 use Rattle.place_core.specs.declared.value_place.ValuePlace.{ValuePlace}
 use Rattle.place_core.proofs.Semilattices.{none_some, one_value}
-use Rattle.html_scan.specs.Scans.{Scan, At, InScript, all_scripts, ends_quoted, quoted_error, quoted_places, scan_cut_error, scan_error, scan_next, scan_script_cut_refusal, scan_script_refusal, script_cause, script_feeding, script_fed_byte, script_step_refusal, written_error, scan_lexeme_error, scan_place}
+use Rattle.html_scan.specs.Scans.{Scan, At, InScript, InScriptElement, all_scripts, ends_quoted, quoted_error, quoted_places, scan_cut_error, scan_next, scan_script_cut_refusal, script_cause, script_feeding, script_fed_byte, script_step_refusal, scan_lexeme_error, scan_place}
 use Rattle.html_step.proofs.ScriptValues.{in-scan, in-set, out-scan}
 use Rattle.html_step.proofs.BelowScans.{below-script}
 use Rattle.html_step.specs.Laws.{EvidenceData, apart, one, two}
@@ -34,9 +33,9 @@ use Rattle.html_step.specs.Origins.{bytes_of_places, script_back, script_value_e
 use Rattle.html_step.specs.Steps.{scan_read_behind, stepped, unless_refused, unless_script_refused, unless_broken_off, unless_too_deep}
 use Rattle.html_step.proofs.FedAlike.{first-caused}
 use Rattle.html_step.proofs.ScanOrder.{HasBegun, ScanBelow, ScanHas, ScanValid, ScriptValueBelow}
-use Rattle.html_step.proofs.ScriptAlike.{Alike, EndsWithBrace, alike-quoted, alike-told, alike-written, same-quoted-bytes, told-apart, told-one, told-two}
+use Rattle.html_step.proofs.ScriptAlike.{Alike, EndsWithBrace, TakesIn, alike-quoted, alike-told, alike-written, same-quoted-bytes, told-apart, told-one, told-two, value-takes}
 use Rattle.html_step.proofs.ScriptEnds.{bytes-placed, fed-state, quoted-taken, taken-script-cut}
-use Rattle.html_step.proofs.ScriptFrom.{TakesScript, script-fed-taken, itself-origin}
+use Rattle.html_step.proofs.ScriptFrom.{script-fed-taken, itself-origin}
 use Rattle.html_step.proofs.SlashCodes.{FedFits, SlashTold, end-code, step-code, told-slash}
 
 no : false ≡ true → ⊥
@@ -75,10 +74,10 @@ refused-same k x None o (Some z) r t e i j n h =
 refused-same k x None o None r t e i j n h = absurd (n refl refl)
 
 -- Where nothing is refused, nothing shows it.
-pub taken-told : (bytes : List ℕ) (ends : ScriptScan → Option Cause) (m : ScriptScan) → TakesScript bytes m → ends (feed_bytes script_feeding m bytes) ≡ None
-    → script_told_shown ends bytes m ≡ None
-taken-told [] ends m t e = ap (option_map _) e
-taken-told (b ∷ bs) ends m t e = rw (t.0) (taken-told bs ends (script_fed_byte m b) t.1 e)
+pub taken-told : (element : Bool) (bytes : List ℕ) (ends : ScriptScan → Option Cause) (m : ScriptScan) → TakesIn element bytes m
+    → ends (feed_bytes script_feeding m bytes) ≡ None → script_told_shown element ends bytes m ≡ None
+taken-told element [] ends m t e = ap (option_map _) e
+taken-told element (b ∷ bs) ends m t e = rw (t.0) (taken-told element bs ends (script_fed_byte m b) t.1 e)
 
 no-refusal : (o p : Option PathRefusal) → first_path_refusal o p ≡ None → p ≡ None
 no-refusal None p e = e
@@ -91,26 +90,26 @@ no-cause places (Some x) e = absurd (given _ e)
 -- at a byte of a value
 pub step-told : (q : Quotes) (k : ℕ) (places : List ℕ) (m : ScriptScan) (r : Reference) (c : Class) (b : ℕ) → script_step_refusal q k places m r c b ≡ None
     → quoted_error script_feeding q m r c b ≡ None
-    → script_told_shown (script_value_ends (ends_quoted q c)) (bytes_of_places (quoted_places q 0 r c b)) m ≡ None
+    → script_told_shown false (script_value_ends (ends_quoted q c)) (bytes_of_places (quoted_places q 0 r c b)) m ≡ None
 step-told q k places m r c b x o =
     let xs = quoted_places q k r c b in
     let ends = script_value_ends (ends_quoted q c) in
     let t = quoted-taken q k r m c b o in
     let e : ends (script_fed all_scripts m xs) ≡ None =
     no-cause (k ∷ places_with xs places) (ends (script_fed all_scripts m xs)) (no-refusal (script_fed_refusal all_scripts places m xs) (script_refusal_at (k ∷ places_with xs places) (ends (script_fed all_scripts m xs))) x) in
-    subst (λ (bytes : List ℕ). script_told_shown ends bytes m ≡ None) (same-quoted-bytes q k r c b)
-    (taken-told (bytes_of_places xs) ends m t (ap ends (sym (fed-state xs m)) ∙ e))
+    subst (λ (bytes : List ℕ). script_told_shown false ends bytes m ≡ None) (same-quoted-bytes q k r c b)
+    (taken-told false (bytes_of_places xs) ends m (value-takes (bytes_of_places xs) m t) (ap ends (sym (fed-state xs m)) ∙ e))
 
 pub step-alike : (k : ℕ) (since : TextRead) (b : ℕ) (bs : List ℕ) (u v : ValuePlace) (n m : ScriptScan) (r : Reference) (e : PathRefusal) (z : EvidenceData)
-    → SameValue u v → Alike (bytes_of_places (quoted_places v.quotes 0 r (class_of b) b)) (script_value_ends (ends_quoted v.quotes (class_of b))) n m
-    → script_told_shown (script_value_ends (ends_quoted v.quotes (class_of b))) (bytes_of_places (quoted_places v.quotes 0 r (class_of b) b)) m ≡ Some z
+    → SameValue u v → Alike false (bytes_of_places (quoted_places v.quotes 0 r (class_of b) b)) (script_value_ends (ends_quoted v.quotes (class_of b))) n m
+    → script_told_shown false (script_value_ends (ends_quoted v.quotes (class_of b))) (bytes_of_places (quoted_places v.quotes 0 r (class_of b) b)) m ≡ Some z
     → stepped k since (b ∷ bs) (InScript v m r) ≡ Err e → stepped k since (b ∷ bs) (InScript u n r) ≡ Err e
 step-alike k since b bs u v n m r e z s a t h =
     let c = class_of b in
     let q = v.quotes in
     let xs = quoted_places q k r c b in
     let ends = script_value_ends (ends_quoted q c) in
-    let here : Alike (bytes_of_places xs) ends n m = subst (λ (bytes : List ℕ). Alike bytes ends n m) (sym (same-quoted-bytes q k r c b)) a in
+    let here : Alike false (bytes_of_places xs) ends n m = subst (λ (bytes : List ℕ). Alike false bytes ends n m) (sym (same-quoted-bytes q k r c b)) a in
     let refusals : script_step_refusal u.quotes k since.fed n r c b ≡ script_step_refusal q k since.fed m r c b =
     ap (λ (p : Quotes). script_step_refusal p k since.fed n r c b) s.quotes ∙ alike-told xs since.fed (k ∷ places_with xs since.fed) ends n m here in
     let errors : quoted_error script_feeding u.quotes n r c b ≡ quoted_error script_feeding q m r c b =
@@ -124,9 +123,10 @@ step-alike k since b bs u v n m r e z s a t h =
 
 -- at the end of a text
 end-told : (v : ValuePlace) (m : ScriptScan) (r : Reference) (k : ℕ) (places : List ℕ) → scan_script_cut_refusal k places (InScript v m r) ≡ None
-    → scan_cut_error (InScript v m r) ≡ None → script_told_shown script_scan_cut_error (as_it_stands r) m ≡ None
+    → scan_cut_error (InScript v m r) ≡ None → script_told_shown false script_scan_cut_error (as_it_stands r) m ≡ None
 end-told v m r k places x o =
-    taken-told (as_it_stands r) script_scan_cut_error m (script-fed-taken (as_it_stands r) m true (length (as_it_stands r)) o)
+    taken-told false (as_it_stands r) script_scan_cut_error m
+    (value-takes (as_it_stands r) m (script-fed-taken (as_it_stands r) m true (length (as_it_stands r)) o))
     (taken-script-cut (InScript v m r) k places x)
 
 abbrev AtEnd : ℕ → TextRead → Scan → Result Place PathRefusal
@@ -136,11 +136,11 @@ cut-bytes : (k : ℕ) (r : Reference) → bytes_of_places (cut_places k r) ≡ a
 cut-bytes k r = bytes-placed true (k - length (as_it_stands r)) (as_it_stands r)
 
 pub end-alike : (k : ℕ) (since : TextRead) (u v : ValuePlace) (n m : ScriptScan) (r : Reference) (e : PathRefusal) (z : EvidenceData)
-    → Alike (as_it_stands r) script_scan_cut_error n m → script_told_shown script_scan_cut_error (as_it_stands r) m ≡ Some z
+    → Alike false (as_it_stands r) script_scan_cut_error n m → script_told_shown false script_scan_cut_error (as_it_stands r) m ≡ Some z
     → stepped k since [] (InScript v m r) ≡ Err e → stepped k since [] (InScript u n r) ≡ Err e
 end-alike k since u v n m r e z a t h =
     let xs = cut_places k r in
-    let here : Alike (bytes_of_places xs) script_scan_cut_error n m = subst (λ (bytes : List ℕ). Alike bytes script_scan_cut_error n m) (sym (cut-bytes k r)) a in
+    let here : Alike false (bytes_of_places xs) script_scan_cut_error n m = subst (λ (bytes : List ℕ). Alike false bytes script_scan_cut_error n m) (sym (cut-bytes k r)) a in
     refused-same k (scan_script_cut_refusal k since.fed (InScript u n r)) (scan_script_cut_refusal k since.fed (InScript v m r))
     (scan_cut_error (InScript u n r)) (scan_cut_error (InScript v m r)) (AtEnd k since (InScript u n r)) (AtEnd k since (InScript v m r)) e
     (alike-told xs since.fed (k ∷ places_with xs since.fed) script_scan_cut_error n m here)
@@ -177,6 +177,10 @@ pub data BraceBelow : Scan → Scan → Type 0 where
   brace_at : (u v : ValuePlace) (i j : Js) → u.body ≡ body.Js i → v.body ≡ body.Js j → u.tag ≡ v.tag → HasBegun u.quotes
       → joined_quotes u.quotes v.quotes ≡ Some v.quotes → ScriptScanBelow (script_scan_start i) (script_with_brace (script_scan_start j))
       → script_set_has (script_scan_start i) member.SenseBrace ≡ true → BraceBelow (At (place.Value u)) (At (place.Value v))
+  brace_in_element : (n m : ScriptScan) (h : Pending) → ScriptScanBelow n (script_with_brace m) → script_set_has n member.SenseBrace ≡ true
+      → BraceBelow (InScriptElement n h) (InScriptElement m h)
+  brace_at_element : (i j : Js) → ScriptScanBelow (script_scan_start i) (script_with_brace (script_scan_start j))
+      → script_set_has (script_scan_start i) member.SenseBrace ≡ true → BraceBelow (At (place.Script i)) (At (place.Script j))
 
 -- where they do
 abbrev pub script_differs : ScriptScan → Bool
@@ -188,7 +192,9 @@ body_differs x = false
 
 abbrev pub scan_differs : Scan → Bool
 scan_differs (At (place.Value v)) = body_differs v.body
+scan_differs (At (place.Script j)) = script_differs (script_scan_start j)
 scan_differs (InScript v m r) = script_differs m
+scan_differs (InScriptElement m h) = script_differs m
 scan_differs f = false
 
 -- What is kept of the bytes that have been read fits it.
@@ -226,19 +232,19 @@ brace-same P _ _ _ f _ (brace_in u v n m r s l h) = f u n s l h
 
 script-shown-by : (k : ℕ) (since : TextRead) (bytes : List ℕ) (v : ValuePlace) (m : ScriptScan) (r : Reference) (e : PathRefusal) (fed : List ℕ)
     (ends : ScriptScan → Option Cause) (z : EvidenceData) → ScanValid (InScript v m r) → ScriptSensesFit m → ShowsRefusals ends (λ n. member.Whole) → EndsWithBrace ends
-    → ((u : ValuePlace) (n : ScriptScan) → SameValue u v → Alike fed ends n m → stepped k since bytes (InScript u n r) ≡ Err e)
-    → ((x y : Member) → script_told_shown ends fed m ≡ Some (two x y) → script_senses_differ m.senses ≡ true → FedBefore k since (InScript v m r)
+    → ((u : ValuePlace) (n : ScriptScan) → SameValue u v → Alike false fed ends n m → stepped k since bytes (InScript u n r) ≡ Err e)
+    → ((x y : Member) → script_told_shown false ends fed m ≡ Some (two x y) → script_senses_differ m.senses ≡ true → FedBefore k since (InScript v m r)
     → e.code ≡ code.SlashAmbig)
-    → script_told_shown ends fed m ≡ Some z
+    → script_told_shown false ends fed m ≡ Some z
     → ScriptShownBytes k since bytes (InScript v m r) e (script_back m z)
 script-shown-by k since bytes v m r e fed ends (one y) w fit shown over f coded t =
-    let d = (told-one fed ends m y shown w.2 t).1 in (
+    let d = (told-one false fed ends m y shown w.2 t).1 in (
       in-scan v.typed v.quotes m (script_origin m y) d.there,
       λ g i l h. below-script (λ (g : Scan). ScanValid g → ScanHas g (script_origin m y) → stepped k since bytes g ≡ Err e) v m r
           (λ u n j q o. f u n (below-same u v n m r q w j) (d.alike n j.scan (out-scan m n u.typed u.quotes (script_origin m y) d.there o))) g l i h,
     )
 script-shown-by k since bytes v m r e fed ends (two x y) w fit shown over f coded t =
-    let d = told-two fed ends m x y w.2 fit shown over t in
+    let d = told-two false fed ends m x y w.2 fit shown over t in
     record {
       first = ap (script_origin m) d.first ∙ itself-origin m member.SenseDiv d.div;
       second = ap (script_origin m) d.other ∙ itself-origin m member.SenseRe d.re;
@@ -250,7 +256,7 @@ script-shown-by k since bytes v m r e fed ends (two x y) w fit shown over f code
       ambiguous = λ b. coded x y t d.differ b;
       refuses = brace-same (λ (g : Scan). stepped k since bytes g ≡ Err e) v m r (λ u n s l h. f u n s (d.alike n l h));
     }
-script-shown-by k since bytes v m r e fed ends apart w fit shown over f coded t = told-apart fed ends m t
+script-shown-by k since bytes v m r e fed ends apart w fit shown over f coded t = told-apart false fed ends m t
 
 -- what shows it before the bytes that are fed
 pub data BackFrom (m : ScriptScan) (o : Option EvidenceData) (z : EvidenceData) : Type 0 where
@@ -271,7 +277,7 @@ in-script-byte k since b bs v m r e z w fit t h =
     let c = class_of b in
     let ends = script_value_ends (ends_quoted v.quotes c) in
     let fed = bytes_of_places (quoted_places v.quotes 0 r c b) in
-    let told = script_told_shown ends fed m in
+    let told = script_told_shown false ends fed m in
     shown-from (ScriptShownBytes k since (b ∷ bs) (InScript v m r) e) m told z (back-of m told told z refl t)
     (λ x i. script-shown-by k since (b ∷ bs) v m r e fed ends x w fit (ends-shown (ends_quoted v.quotes c)) (ends-with-brace (ends_quoted v.quotes c))
     (λ u n s a. step-alike k since b bs u v n m r e x s a i h)
@@ -279,10 +285,10 @@ in-script-byte k since b bs v m r e z w fit t h =
     e o fit d (subst (λ (xs : List ℕ). SlashTold ends xs m) (sym (same-quoted-bytes v.quotes k r c b)) (told-slash fed ends m y u j)) h) i)
 
 pub in-script-end : (k : ℕ) (since : TextRead) (v : ValuePlace) (m : ScriptScan) (r : Reference) (e : PathRefusal) (z : EvidenceData)
-    → ScanValid (InScript v m r) → ScriptSensesFit m → script_shows script_scan_cut_error (as_it_stands r) m ≡ Some z → stepped k since [] (InScript v m r) ≡ Err e
+    → ScanValid (InScript v m r) → ScriptSensesFit m → script_shows false script_scan_cut_error (as_it_stands r) m ≡ Some z → stepped k since [] (InScript v m r) ≡ Err e
     → ScriptShownBytes k since [] (InScript v m r) e z
 in-script-end k since v m r e z w fit t h =
-    let told = script_told_shown script_scan_cut_error (as_it_stands r) m in
+    let told = script_told_shown false script_scan_cut_error (as_it_stands r) m in
     shown-from (ScriptShownBytes k since [] (InScript v m r) e) m told z (back-of m told told z refl t)
     (λ x i. script-shown-by k since [] v m r e (as_it_stands r) script_scan_cut_error x w fit scripts-shown.cut (λ n c. c.cut_error)
     (λ u n s a. end-alike k since u v n m r e x a i h)
@@ -292,4 +298,5 @@ in-script-end k since v m r e z w fit t h =
 -- in a script it says so
 abbrev pub ScanFits : Scan → Type 0
 ScanFits (InScript v n r) = ScriptSensesFit n
+ScanFits (InScriptElement n h) = ScriptSensesFit n
 ScanFits f = Unit {0}

@@ -1,18 +1,16 @@
 -- Each member after a byte of a value that is a script, and after its end, comes from one member before it.
-use Rattle.std.proofs.Common.{◌≡◌, ℕ, ◌+◌, ◌-◌, Bool, true, false, ◌||◌, ◌&&◌, List, [], ◌∷◌, ◌++◌, length, Option, Some, None, option_map, if◌then◌else◌, refl, sym, ap, ◌∙◌, subst}
+use Rattle.std.proofs.Common.{◌≡◌, ℕ, ◌+◌, Bool, true, false, ◌||◌, ◌&&◌, List, [], ◌∷◌, ◌++◌, length, Some, None, if◌then◌else◌, refl, sym, ap, ◌∙◌, subst, ⊎_elim}
 use Rattle.std.specs.Prelude.{encode_utf8}
 use Rattle.place_core.specs.page.Classes.{Class, White, QuotationMark, Apostrophe, LessThan, EqualsSign, GreaterThan, GraveAccent, is_equals_sign}
-use Rattle.place_core.specs.page.Html.{ends_value}
-use Rattle.place_core.specs.page.References.{Form, Reference, Closed, Open, ReferenceStep, Grows, Closes, Breaks, as_it_stands, flushed, meaning, next_reference, plain_bytes, turn, turn_bytes, undone_byte}
+use Rattle.place_core.specs.page.References.{Form, Reference, Closed, Open, ReferenceStep, Grows, Closes, Breaks, as_it_stands, flushed, meaning, plain_bytes, turn, turn_bytes, undone_byte}
 use Rattle.place_core.specs.page.Tags.{feed_bytes}
-use Rattle.place_core.specs.place.Errors.{at_hand, bare_error, body_error, cause_back, fed_error, flushed_error, is_unknown_name, is_written, language_error, name_error, quotes_error, turned_error, value_error}
+use Rattle.place_core.specs.place.Errors.{at_hand, bare_error, body_error, fed_error, flushed_error, is_unknown_name, is_written, language_error, name_error, quotes_error, turned_error, value_error}
 use Rattle.place_core.specs.place.LanguagePlaces.{js_has}
 use Rattle.place_core.specs.place.Places.{Has, IsValid, IsValidBody, IsValidQuotes, body_has, is_whole, joined_bodies, joined_quotes, quotes_have, some_bare, spots_have, typed_has}
 use Rattle.place_core.specs.place.StatePlaces.{only_before, unbegun}
 use Rattle.place_core.specs.declared.bare.Bare.{Bare}
 use Rattle.place_core.specs.declared.body.Body.{Body}
 use Rattle.place_core.specs.declared.body.Body.TheVariants as body
-use Rattle.place_core.specs.declared.code.Code.{Code}
 use Rattle.place_core.specs.declared.code.Code.TheVariants as code
 use Rattle.place_core.specs.declared.css.Css.{Css}
 use Rattle.place_core.specs.declared.member.Member.{Member}
@@ -21,17 +19,17 @@ use Rattle.place_core.specs.declared.place.Place.TheVariants as place
 use Rattle.place_core.specs.declared.quotes.Quotes.{Quotes}
 use Rattle.place_core.specs.declared.quotes.Quotes.TheVariants as quotes
 use Rattle.place_core.specs.declared.value_place.ValuePlace.{ValuePlace}
-use Rattle.place_core.proofs.Semilattices.{no_map, none_some}
+use Rattle.place_core.proofs.Semilattices.{none_some}
 use Rattle.place_core.proofs.Joins.{places_same}
-use Rattle.html_scan.specs.Scans.{Scan, At, InScript, bare_begun, bare_leads, bare_white, body_cause, content_scan, empty_script_between, in_tag, quoted_error, quotes_lead, scan_cut_error, scan_next, scan_place, script_cause, script_fed_byte, script_fed_next, script_feeding, script_value_next, with_script, value_between, value_cause, value_fed, value_next, with_quotes, with_style, written_error}
+use Rattle.html_scan.specs.Scans.{Scan, At, InScript, bare_begun, bare_leads, bare_white, body_cause, content_scan, empty_script_between, in_tag, quoted_error, quotes_lead, scan_cut_error, scan_next, scan_place, script_cause, script_fed_byte, script_fed_next, script_feeding, script_value_next, with_script, value_between, value_cause, value_fed, value_next, with_quotes}
 use Rattle.js_step.specs.ScriptEvidence.{script_scan_has}
-use Rattle.html_step.specs.Origins.{body_origin, fed_in, in_value_origin, script_origin, value_origin}
+use Rattle.html_step.specs.Origins.{body_origin, fed_in, in_body_origin, in_value_origin, script_origin, value_origin}
 use Rattle.html_step.proofs.BelowScans.{below-at-value, below-script, whole-in}
-use Rattle.html_step.proofs.FromParts.{first-no-cause, no-cause-back, or-behind, or-either, or-first}
-use Rattle.html_step.proofs.FromValues.{From, FromEnd, content-whole, typed-more}
+use Rattle.html_step.proofs.FromParts.{first-no-cause, or-behind, or-either, or-first}
+use Rattle.html_step.proofs.FromValues.{From, FromEnd, content-from, typed-more}
 use Rattle.html_step.proofs.PathScans.{none-at-hand, some}
 use Rattle.html_step.proofs.PlaceParts.{Under, below-value}
-use Rattle.html_step.proofs.ScanOrder.{BegunWhereOpen, HasBegun, ScanBelow, ScanHas, ScanValid, ScriptValueBelow, bare-parts, bare-white, begun-open, begun-valid, first-none, if-none, script_cut}
+use Rattle.html_step.proofs.ScanOrder.{BegunWhereOpen, HasBegun, ScanHas, ScanValid, ScriptValueBelow, bare-parts, bare-white, begun-open, begun-valid, first-none, if-none, script_cut}
 use Rattle.url_lexer.specs.Triples.{NoTriple}
 use Rattle.html_step.proofs.FedAlike.{BegunIf}
 use Rattle.place_core.specs.declared.js.Js.{Js}
@@ -135,6 +133,12 @@ there-set v n bytes y w a h =
     subst (λ (m : Member). script_scan_has n (script_origin n m) ≡ true) (sym (script-kept (feed_bytes script_feeding n bytes) y h))
     (script-fed-from bytes n y w a h).there
 
+-- where a script begins behind its tag
+sense-there : (v : ValuePlace) (n : ScriptScan) (x : Bool) → script_set_has n member.SenseRe ≡ x → script_has v.typed v.quotes n (ScriptValueOrigin n member.SenseRe) ≡ true
+sense-there v n true e =
+    subst (λ (m : Member). script_has v.typed v.quotes n m ≡ true) (sym (itself-origin n member.SenseRe e)) (in-set v.typed v.quotes n member.SenseRe e)
+sense-there v n false e = there-whole v n (script_origin n member.SenseRe) (other-origin n member.SenseRe e)
+
 pub alike-there : (u v : ValuePlace) (k n : ScriptScan) (bytes : List ℕ) (f g : Scan) (y : Member) → IsScriptScan n → ScriptAlike u v k n bytes f g → ScanHas g y
     → script_has v.typed v.quotes n (ScriptValueOrigin n y) ≡ true
 alike-there u v k n bytes f g y w (script_tags e i) h =
@@ -144,7 +148,9 @@ alike-there u v k n bytes f g y w (script_tags e i) h =
     (λ k. or-either (script_has v.typed v.quotes n X ≡ true) (typed_has v.typed y) (spots_have only_before y) k
     (λ l. there-typed v n X (typed-origin n v.typed y l)) (λ l. there-whole v n X (spot-origin n y l)))
 alike-there u v k n bytes f g y w (script_ends e i) h =
-    there-whole v n (ScriptValueOrigin n y) (whole-origin n y (content-whole v.tag y (subst (λ (x : Scan). ScanHas x y) i h)))
+    ⊎_elim (λ k. there-whole v n (ScriptValueOrigin n y) (whole-origin n y k))
+    (λ k. subst (λ (x : Member). script_has v.typed v.quotes n (ScriptValueOrigin n x) ≡ true) (sym k) (sense-there v n (script_set_has n member.SenseRe) refl))
+    (content-from v.tag y (subst (λ (x : Scan). ScanHas x y) i h))
 alike-there u v k n bytes f g y w (script_goes q a into out) h =
     let X = ScriptValueOrigin n y in
     script-cases (script_has v.typed v.quotes n X ≡ true) v.typed q (feed_bytes script_feeding n bytes) y (out y h)
@@ -172,9 +178,9 @@ set-leads u k n bytes y w a l h o =
     let x = script_origin n y in
     f.leads k l (out-scan n k u.typed u.quotes x f.there (subst (λ (m : Member). script_has u.typed u.quotes k (script_origin n m) ≡ true) kept o))
 
-pub alike-leads : (u v : ValuePlace) (k n : ScriptScan) (bytes : List ℕ) (f g : Scan) (y : Member) → IsScriptScan n → ScriptAlike u v k n bytes f g → ScriptUnder k n
+pub alike-leads : (u v : ValuePlace) (k n : ScriptScan) (bytes : List ℕ) (f g : Scan) (y : Member) → u.tag ≡ v.tag → IsScriptScan n → ScriptAlike u v k n bytes f g → ScriptUnder k n
     → ScanHas g y → script_has u.typed u.quotes k (ScriptValueOrigin n y) ≡ true → ScanHas f y
-alike-leads u v k n bytes f g y w (script_tags e i) d h o =
+alike-leads u v k n bytes f g y t w (script_tags e i) d h o =
     or-either (ScanHas f y) (is_whole y) (typed_has v.typed y || spots_have only_before y) (subst (λ (x : Scan). ScanHas x y) i h)
     (λ j. whole-in f y j)
     (λ j. subst (λ (x : Scan). ScanHas x y) (sym e)
@@ -182,8 +188,8 @@ alike-leads u v k n bytes f g y w (script_tags e i) d h o =
     (or-either ((typed_has u.typed y || spots_have only_before y) ≡ true) (typed_has v.typed y) (spots_have only_before y) j
     (λ l. or-first (typed_has u.typed y) (spots_have only_before y) (seen u v k n bytes y l o))
     (λ l. or-behind (typed_has u.typed y) (spots_have only_before y) l))))
-alike-leads u v k n bytes f g y w (script_ends e i) d h o = whole-in f y (content-whole v.tag y (subst (λ (x : Scan). ScanHas x y) i h))
-alike-leads u v k n bytes f g y w (script_goes q a into out) d h o =
+alike-leads u v k n bytes f g y t w (script_ends e i) d h o = subst (λ (x : Scan). ScanHas x y) (i ∙ sym (ap content_scan t) ∙ sym e) h
+alike-leads u v k n bytes f g y t w (script_goes q a into out) d h o =
     let m = feed_bytes script_feeding k bytes in
     script-cases (ScanHas f y) v.typed q (feed_bytes script_feeding n bytes) y (out y h) (λ j. whole-in f y j)
     (λ j. into y (in-typed u.typed q m y (seen u v k n bytes y j o))) (λ j. into y (in-quotes u.typed q m y j))
@@ -317,7 +323,7 @@ from-in-script v n r c b y w s e h =
       there = alike-there v v n n bytes (script_value_next v n r c b) (script_value_next v n r c b) y s
           (in-alike v v n n r c b (begun-valid v.quotes w) (begun-stay v v n n v.quotes w) i (same-quotes v) t) h;
       leads = λ g z l o. below-script (λ (g : Scan). ScanValid g → ScanHas g x → ScanHas (scan_next g c b) y) v n r
-          (λ u k l z o. alike-leads u v k n bytes (script_value_next u k r c b) (script_value_next v n r c b) y s
+          (λ u k l z o. alike-leads u v k n bytes (script_value_next u k r c b) (script_value_next v n r c b) y l.tag s
           (in-alike u v k n r c b (begun-valid u.quotes z.0) (begun-stay u v k n u.quotes z.0) i l.quotes t) l.scan h o) g l z o;
     }
 
@@ -382,13 +388,13 @@ from-script-place v c b y p d w e h =
     let bytes = fed_in v.quotes Closed c b in
     let x = ScriptValueOrigin n y in
     let f = value_next v NoTriple Closed c b in
-    let same : value_origin v Closed c b y ≡ x = ap (λ (z : Body). body_origin z bytes (in_value_origin y)) d in
+    let same : value_origin v Closed c b y ≡ x = ap (λ (z : Body). body_origin z bytes (in_body_origin z y)) d in
     subst (From (At (place.Value v)) c b y) (sym same)
     (record {
       there = place-has v p x d (alike-there v v n n bytes f f y s (place-alike v v p p c b d d w.0 (same-quotes v) t) h);
       leads = λ g z l o. below-at-value (λ (g : Scan). ScanValid g → ScanHas g x → ScanHas (scan_next g c b) y) v
           (λ u l z o. let k = js-of u.body p z.1 (subst (λ (q : Body). joined_bodies u.body q ≡ Some q) d l.body) in
-          alike-leads u v (script_scan_start k.0) n bytes (value_next u NoTriple Closed c b) f y s (place-alike u v k.0 p c b k.1 d z.0 l.quotes t) k.2 h (has-place u k.0 x k.1 o))
+          alike-leads u v (script_scan_start k.0) n bytes (value_next u NoTriple Closed c b) f y l.tag s (place-alike u v k.0 p c b k.1 d z.0 l.quotes t) k.2 h (has-place u k.0 x k.1 o))
           (λ u k q i l z o. absurd (no-style p q (sym d ∙ i))) g l z o;
     })
 

@@ -3,9 +3,9 @@ use Rattle.std.proofs.Common.{◌≡◌, ◌≤◌, ℕ, Bool, true, false, ◌|
 use Rattle.place_core.specs.page.Classes.{Class, White, QuotationMark, Apostrophe, Solidus, LessThan, EqualsSign, GreaterThan, GraveAccent, class_of, is_equals_sign}
 use Rattle.place_core.specs.page.References.{Form, Reference, Closed, Open, Breaks, as_it_stands, flushed, turn, undone_byte}
 use Rattle.place_core.specs.page.Tags.{feed_bytes}
-use Rattle.place_core.specs.place.Errors.{PathCause, at_hand, bare_error, body_error, comment_error, content_error, equals_error, first_cause, first_error, quotes_error, tag_error, value_error, block_error, pending_error, split_error}
+use Rattle.place_core.specs.place.Errors.{PathCause, at_hand, bare_error, body_error, comment_error, equals_error, first_cause, first_error, quotes_error, tag_error, value_error, block_error, pending_error, split_error}
 use Rattle.place_core.specs.place.LanguagePlaces.{css_has, parts_have, js_has}
-use Rattle.place_core.specs.place.Places.{Below, Has, IsValid, IsValidQuotes, IsValidTag, body_has, joined_bodies, joined_kinds, joined_quotes, quotes_have, IsValidBody}
+use Rattle.place_core.specs.place.Places.{Has, IsValid, IsValidQuotes, IsValidTag, body_has, joined_bodies, joined_quotes, quotes_have, IsValidBody}
 use Rattle.place_core.specs.declared.bare.Bare.{Bare}
 use Rattle.place_core.specs.declared.body.Body.{Body}
 use Rattle.place_core.specs.declared.body.Body.TheVariants as body
@@ -13,7 +13,6 @@ use Rattle.place_core.specs.declared.code.Code.{Code}
 use Rattle.place_core.specs.declared.code.Code.TheVariants as code
 use Rattle.place_core.specs.declared.css.Css.{Css}
 use Rattle.place_core.specs.declared.css.Css.TheVariants as css
-use Rattle.place_core.specs.declared.kind.Kind.{Kind}
 use Rattle.place_core.specs.declared.member.Member.{Member}
 use Rattle.place_core.specs.declared.member.Member.TheVariants as member
 use Rattle.place_core.specs.declared.parts.Parts.{Parts}
@@ -27,8 +26,8 @@ use Rattle.place_core.proofs.Joins.{places_same}
 use Rattle.place_core.specs.declared.tag_place.TagPlace.{TagPlace}
 use Rattle.place_core.specs.declared.value_place.ValuePlace.{ValuePlace}
 use Rattle.place_core.proofs.Semilattices.{none_some, one_value, no_map}
-use Rattle.html_scan.specs.Scans.{Scan, At, AfterLess, AfterLessSolidus, InDeclaration, InTagName, InAttributeName, InUrl, InStyle, InStyleElement, InCommentEnd, InContentEnd, open_cut_error, body_cause, parts_feeding, place_cause, quoted_error, scan_cut_error, scan_error, scan_lexeme_error, value_cause, BeforeType, InType, parts_with, triple_behind, url_scan, InScript, script_cause, script_feeding, style_feeding, style_less_cause, written_error}
-use Rattle.js_step.specs.ScriptScans.{ScriptScan, script_scan_cut_error}
+use Rattle.html_scan.specs.Scans.{Scan, At, AfterLess, AfterLessSolidus, InDeclaration, InTagName, InAttributeName, InUrl, InStyle, InStyleElement, InCommentEnd, InContentEnd, open_cut_error, body_cause, parts_feeding, place_cause, quoted_error, scan_cut_error, scan_error, scan_lexeme_error, value_cause, BeforeType, InType, parts_with, triple_behind, url_scan, InScript, script_cause, script_feeding, style_feeding, style_less_cause, written_error, InScriptElement, script_scan_step}
+use Rattle.js_step.specs.ScriptScans.{ScriptScan, script_scan_cut_error, script_scan_start}
 use Rattle.place_core.specs.page.Contents.{pending_bytes}
 use Rattle.html_step.proofs.FedAlike.{first-caused}
 use Rattle.html_step.proofs.StyleFedShown.{none-fed}
@@ -36,27 +35,28 @@ use Rattle.html_step.proofs.ScriptPaths.{empty_js}
 use Rattle.html_step.proofs.ScriptFrom.{IsScriptMember, js-is}
 use Rattle.html_step.proofs.ScriptValues as scripts
 use Rattle.html_step.proofs.ScriptTold.{below-same}
-use Rattle.html_step.proofs.ScriptAlike.{told-none}
+use Rattle.html_step.proofs.ScriptAlike.{takes-value, told-none}
 use Rattle.html_step.proofs.ScriptQuiet.{begun-quiet, script-errors, taken-error}
 use Rattle.html_step.specs.Laws.{EvidenceData, apart, one, two}
 use Rattle.html_step.specs.Origins.{bare_shows, body_or_quotes, body_parts, body_refusal_shows, byte_shows, colon_shows, end_shows, is_apart, name_origin, place_shows, quotes_show, scan_parts, tag_shows, url_shows, value_shows, begun_script_shows, name_or_quotes, script_back, script_end_shown, script_shown, script_shows, script_step_shows, script_told_shown, script_value_shows, shown_member}
-use Rattle.html_step.proofs.BelowScans.{IsRigid, below-at, below-at-comment, below-at-tag, below-at-unstyled, below-attribute, below-url, tag-name-rigid, whole-in, below-at-block, before-type-rigid, content-end-rigid, type-rigid, below-at-value, below-script}
+use Rattle.html_step.proofs.BelowScans.{IsRigid, below-at-comment, below-at-tag, below-at-unstyled, below-attribute, below-url, tag-name-rigid, whole-in, below-at-block, before-type-rigid, content-end-rigid, type-rigid, below-at-value, below-script}
 use Rattle.html_step.proofs.ApartParts.{IsAmbiguous, apart-inside, bytes-stay, hole-before, hole-bytes, no-colon-fed, or-not}
 use Rattle.html_step.proofs.Characters.{ReferencePlain, stands-no-colon}
 use Rattle.html_step.proofs.ElementShown.{element-cut, element-lexeme, element-place-shown, element-shown}
 use Rattle.html_step.proofs.FromParts.{or-behind, or-either, or-first}
 use Rattle.html_step.proofs.FromSteps.{no, or-false, untyped-rigid}
 use Rattle.html_step.proofs.FromValues.{in-body, out-part, value_has}
-use Rattle.html_step.proofs.ScanOrder.{HasBegun, BegunWhereOpen, ScanHas, ScanValid, Unstyled, bare-parts, begun-open, begun-valid, cause-accepts, kind-of-some, parts-below, parts-of-below, some-none, within-unstyled, UrlWithin}
+use Rattle.html_step.proofs.ScanOrder.{HasBegun, BegunWhereOpen, ScanHas, ScanValid, Unstyled, bare-parts, begun-open, begun-valid, cause-accepts, parts-below, parts-of-below, within-unstyled, UrlWithin}
 use Rattle.html_step.proofs.ShownBytes.{ApartShown, ShownByte, ShownCut, ShownLexeme, TwoShown, by_colon, by_white}
 use Rattle.html_step.proofs.StyleShownSteps.{cut-style, lexeme-shown, lexeme-style, place-shown}
 use Rattle.html_step.proofs.ReadScans.{Behind, Broken, quoted-read, read_turn, read_value}
 use Rattle.html_step.proofs.UrlScans.{ScanPlain, reference_length}
 use Rattle.html_step.proofs.ShownUrls.{UrlShown, on_behind, on_each, on_first, quoted-shown, same-quoted}
-use Rattle.html_step.proofs.PathScans.{some}
-use Rattle.html_step.proofs.PlaceParts.{Under, TagBelow, ValueBelow, same-kinds, below-value, under-none}
+use Rattle.html_step.proofs.PlaceParts.{Under, TagBelow, ValueBelow, below-value, under-none}
 use Rattle.url_lexer.specs.Triples.{Triple, NoTriple, AfterPercent, AfterDigit}
 use Rattle.url_step.specs.PartSets.{PartsBelow, spells_apart}
+use Rattle.html_step.proofs.ScriptElementQuiet.{step-quiet, element-cut-quiet}
+use Rattle.place_core.specs.page.States.{Nothing}
 
 url-valid : (b : Body) → UrlWithin b → IsValidBody b
 url-valid (body.Url s) w = w
@@ -117,8 +117,7 @@ evidence-tag-byte : (t : TagPlace) (c : Class) (byte : ℕ) (e : PathCause) → 
     → ShownByte (At (place.Tag t)) c byte e (one (tag_shows c t.spots))
 evidence-tag-byte t White byte e v h = absurd (none_some e h)
 evidence-tag-byte t Solidus byte e v h = absurd (none_some e h)
-evidence-tag-byte t GreaterThan byte e v h = evidence-tag t GreaterThan byte e member.Whole refl
-    (λ u w l o. ap (λ (x : TagOf). at_hand (content_error x)) l.tag ∙ h)
+evidence-tag-byte t GreaterThan byte e v h = absurd (none_some e h)
 evidence-tag-byte t EqualsSign byte e v h = evidence-equals t byte e t.spots.name t.spots.before v refl refl h
 evidence-tag-byte t QuotationMark byte e v h = evidence-quote t QuotationMark byte e t.spots.name (λ u. refl) refl h
 evidence-tag-byte t Apostrophe byte e v h = evidence-quote t Apostrophe byte e t.spots.name (λ u. refl) refl h
@@ -479,16 +478,6 @@ evidence-block true c byte e h = (
 )
 evidence-block false c byte e h = absurd (none_some e h)
 
--- what is not built at all
-script-error : (j : _) (c : Class) (b : ℕ) (a : Place) → Below a (place.Script j) → place_cause a c b ≡ at_hand (Some code.NotBuilt)
-script-error j c b (place.Script i) h = refl
-script-error j c b _ h = absurd (none_some (place.Script j) h)
-
-evidence-unbuilt : (j : _) (c : Class) (b : ℕ) (e : PathCause) → at_hand (Some code.NotBuilt) ≡ Some e
-    → ShownByte (At (place.Script j)) c b e (one member.Whole)
-evidence-unbuilt j c b e h =
-    (refl, λ g v l o i. below-at (λ (g : Scan). scan_error g c b ≡ Some e) (place.Script j) (λ a l. script-error j c b a l ∙ h) (λ u n z. absurd z) (λ n z. absurd z) g l)
-
 -- In a value that is a script, where the script refuses nothing.
 js-not-style : (j : _) (s : Css) → body.Js j ≡ body.Css s → ⊥
 js-not-style j s e = cc
@@ -566,7 +555,8 @@ evidence-place (place.Comment dash) c b e k v q h = evidence-comment dash c b e 
 evidence-place (place.Rcdata x) c b e k v q h = absurd (none_some e h)
 evidence-place (place.Tag t) c b e k v q h = evidence-tag-byte t c b e v h
 evidence-place (place.Value x) c b e k v q h = evidence-value x c b e x.body k refl q h
-evidence-place (place.Script j) c b e k v q h = evidence-unbuilt j c b e h
+evidence-place (place.Script j) c b e k v q h =
+    absurd (none_some e (sym (step-quiet (script_scan_step (script_scan_start j) Nothing c b) (script_scan_start j) q) ∙ h))
 evidence-place (place.Style j) c b e k v q h = element-place-shown j c b e h
 evidence-place (place.Block less) c b e k v q h = evidence-block less c b e h
 
@@ -592,6 +582,7 @@ evidence-byte (InUrl w t r) c b e k v n q h =
     (evidence-value-byte w (InUrl w t r) r c b e (λ y o. o) (λ z bytes i. (t, ap (InUrl w t) i)) k (begun-open r w.quotes v.0) n (within-unstyled w.body v.1) h)
 evidence-byte (InStyle w s r) c b e k v n q h = lexeme-shown w s r c b e k v.0 v.1 n h
 evidence-byte (InScript w s r) c b e k v n q h = script-byte w s r c b e v q h
+evidence-byte (InScriptElement m x) c b e k v n q h = absurd (none_some e (sym (step-quiet (script_scan_step m x c b) m q) ∙ h))
 evidence-byte (InStyleElement s x) c b e k v n q h = element-shown s x c b e v.1 h
 evidence-byte (InCommentEnd s) c b e k v n q h = absurd (none_some e h)
 evidence-byte (InContentEnd x y) c b e k v n q h = evidence-rigid (InContentEnd x y) c b e (content-end-rigid x y) h
@@ -645,10 +636,10 @@ cut-url (body.Url s) r n = no-colon-fed (as_it_stands r) s true (length (as_it_s
 cut-url _ r n = refl
 
 -- a script that shows nothing refuses nothing at the end
-pub cut-quiet : (s : ScriptScan) (r : Reference) → script_shows script_scan_cut_error (as_it_stands r) s ≡ None → written_error script_feeding s (as_it_stands r) ≡ None
+pub cut-quiet : (s : ScriptScan) (r : Reference) → script_shows false script_scan_cut_error (as_it_stands r) s ≡ None → written_error script_feeding s (as_it_stands r) ≡ None
 cut-quiet s r q =
-    let d = told-none (as_it_stands r) script_scan_cut_error s (no_map (script_back s) (script_told_shown script_scan_cut_error (as_it_stands r) s) q) in
-    taken-error (as_it_stands r) true (length (as_it_stands r)) s d.0
+    let d = told-none false (as_it_stands r) script_scan_cut_error s (no_map (script_back s) (script_told_shown false script_scan_cut_error (as_it_stands r) s) q) in
+    taken-error (as_it_stands r) true (length (as_it_stands r)) s (takes-value (as_it_stands r) s d.0)
 
 pub evidence-cut : (f : Scan) (e : PathCause) → ScanValid f → ScanPlain f → script_end_shown f ≡ None → scan_cut_error f ≡ Some e → ShownCut f e (end_shows f)
 evidence-cut (InAttributeName t typed name) e v n q h = cut-attribute t typed name e h
@@ -662,6 +653,7 @@ evidence-cut (InCommentEnd s) e v n q h = absurd (none_some e h)
 evidence-cut (InContentEnd x y) e v n q h = cut-rigid (InContentEnd x y) e (content-end-rigid x y) h
 evidence-cut (BeforeType t) e v n q h = cut-rigid (BeforeType t) e (before-type-rigid t) h
 evidence-cut (InStyle w s r) e v n q h = cut-style w s r e n h
+evidence-cut (InScriptElement m x) e v n q h = absurd (none_some e (sym (element-cut-quiet x m q) ∙ h))
 evidence-cut (InStyleElement s x) e v n q h = element-cut s x e v.1 h
 evidence-cut (InScript v s r) e w n q h = absurd (none_some e (sym (cut-quiet s r q) ∙ h))
 evidence-cut (InType t z w r) e v n q h = cut-rigid (InType t z w r) e (type-rigid t z w r) h
@@ -688,6 +680,7 @@ evidence-lexeme (InStyle v s r) e n m h = lexeme-style v s r e m h
 evidence-lexeme (InStyleElement s x) e n m h = element-lexeme s x e m h
 evidence-lexeme (InAttributeName t typed name) e n m h = absurd (none_some e h)
 evidence-lexeme (InScript v s r) e n m h = absurd (none_some e h)
+evidence-lexeme (InScriptElement s x) e n m h = absurd (none_some e h)
 evidence-lexeme (At p) e n m h = absurd (none_some e h)
 evidence-lexeme AfterLess e n m h = absurd (none_some e h)
 evidence-lexeme AfterLessSolidus e n m h = absurd (none_some e h)

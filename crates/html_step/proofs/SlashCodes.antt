@@ -26,7 +26,7 @@ use Rattle.place_core.specs.declared.place.Place.{Place}
 use Rattle.place_core.specs.declared.quotes.Quotes.{Quotes}
 use Rattle.place_core.specs.declared.quotes.Quotes.TheVariants as quotes
 use Rattle.html_scan.specs.Scans.{all_scripts, ends_quoted, quoted_error, quoted_places, script_fed_byte, script_feeding, script_step_refusal}
-use Rattle.html_step.specs.Laws.{EvidenceData, one, two}
+use Rattle.html_step.specs.Laws.{EvidenceData, two}
 use Rattle.html_step.specs.Origins.{bytes_of_places, first_shown, script_evidence, script_told_shown, script_value_ends}
 use Rattle.html_step.specs.Steps.{unless_script_refused}
 use Rattle.html_step.proofs.ScriptEnds.{bytes-both, bytes-placed, fed-none, fed-state, quoted-taken}
@@ -73,11 +73,11 @@ byte-told m b x y (Some e) rest P i h f =
     inl (record { cause = e; is = i; ambig = shown-none m w e.refusal (evidence-none (script_shown_by m w e.refusal) x y h) })
 byte-told m b x y None rest P i h f = inr (i, f h)
 
-pub told-slash : (bytes : List ℕ) (ends : ScriptScan → Option Cause) (m : ScriptScan) (x y : Member) → script_told_shown ends bytes m ≡ Some (two x y)
+pub told-slash : (bytes : List ℕ) (ends : ScriptScan → Option Cause) (m : ScriptScan) (x y : Member) → script_told_shown false ends bytes m ≡ Some (two x y)
     → SlashTold ends bytes m
 told-slash [] ends m x y h = end-told m x y (ends m) h
 told-slash (b ∷ bs) ends m x y h =
-    byte-told m b x y (script_scan_error false m b) (script_told_shown ends bs (script_fed_byte m b)) (SlashTold ends bs (script_fed_byte m b)) refl h
+    byte-told m b x y (script_scan_error false m b) (script_told_shown false ends bs (script_fed_byte m b)) (SlashTold ends bs (script_fed_byte m b)) refl h
     (λ i. told-slash bs ends (script_fed_byte m b) x y i)
 
 -- What the script refuses of the bytes that it is fed, with their places.

@@ -11,14 +11,14 @@ use Rattle.js_lexer.specs.declared.sense.Sense.{Sense}
 use Rattle.js_lexer.specs.declared.sense.Sense.TheVariants as sense
 use Rattle.js_step.specs.ScriptScans.{script_scan_start}
 use Rattle.place_core.proofs.Semilattices.{none_some}
-use Rattle.place_core.specs.page.References.{Closed, Open}
-use Rattle.place_core.specs.page.States.{LexState, Text, TagOpen, EndTagOpen, DeclarationOpen, Started, StartedDash, Inside, Dash, DashDash, Bang, Broken, InComment, BogusComment, InDoctype, TagName, WholeTagName, BeforeAttributeName, AttributeName, WholeAttributeName, AfterAttributeName, BeforeAttributeValue, AttributeValue, AfterAttributeValue, SelfClosingStartTag, Content, Characters, Bytes, InLanguage, Pending, Nothing, PendingLess, LessAtCut, PendingName, PendingBang, PendingBangDash, InContent, Unread}
+use Rattle.place_core.specs.page.References.{Reference, Closed, Open}
+use Rattle.place_core.specs.page.States.{LexState, Text, TagOpen, EndTagOpen, DeclarationOpen, Started, StartedDash, Inside, Dash, DashDash, Bang, Broken, InComment, BogusComment, InDoctype, TagName, WholeTagName, BeforeAttributeName, AttributeName, WholeAttributeName, AfterAttributeName, BeforeAttributeValue, AttributeValue, AfterAttributeValue, SelfClosingStartTag, Characters, Bytes, InLanguage, Pending, Nothing, PendingLess, LessAtCut, PendingName, PendingBang, PendingBangDash, PendingOpening, InContent}
 use Rattle.place_core.specs.page.Tags.{Tag, Quoting, ValueOf, Deciding, ValueState, OfKind, OfUrl, OfStyle, OfScript, is_second_type}
 use Rattle.place_core.specs.place.Membership.{IsIn, Bears}
 use Rattle.place_core.specs.place.LanguagePlaces.{js_has}
 use Rattle.place_core.specs.place.PathPairs.{sense_at_text, slash_sense}
 use Rattle.place_core.specs.place.Places.{Below, Has, body_has, joined_bodies, quotes_have}
-use Rattle.place_core.specs.place.ScriptParts.{script_body, script_may_begin_text, script_place, script_senses, script_tails}
+use Rattle.place_core.specs.place.ScriptParts.{script_body, script_js, script_may_begin_text, script_place, script_senses, script_tails}
 use Rattle.place_core.specs.place.StatePlaces.{block_place, content_place, content_spot, only_after, only_inside, placed, quotes_at, tag_spot, value_spot}
 use Rattle.place_core.specs.place.StyleParts.{style_body, style_css}
 use Rattle.place_core.specs.place.UrlParts.{parts_of}
@@ -44,6 +44,7 @@ use Rattle.url_lexer.specs.Triples.{Triple, NoTriple, AfterPercent, AfterDigit}
 use Rattle.html_scan.specs.Scans as scans
 use Rattle.html_step.proofs.ElementSteps.{body-css}
 use Rattle.html_step.proofs.FromTexts.{own-has}
+use Rattle.html_step.proofs.JsPlaces.{under-script}
 use Rattle.html_step.proofs.PlaceParts.{below-value}
 use Rattle.html_step.proofs.ScriptTold.{body_differs, scan_differs, script_differs}
 
@@ -59,8 +60,13 @@ abbrev BodyFits : Option Sense → Body → Type 0
 BodyFits o (body.Js c) = JsFits o c
 BodyFits o b = Unit {0}
 
+abbrev OptionFits : Option Sense → Option Js → Type 0
+OptionFits o (Some c) = JsFits o c
+OptionFits o None = Unit {0}
+
 abbrev WhereFits : Option Sense → Option Place → Type 0
 WhereFits o (Some (place.Value v)) = BodyFits o v.body
+WhereFits o (Some (place.Script c)) = JsFits o c
 WhereFits o p = Unit {0}
 
 code-fits : (s : Sense) (x : Tail) → JsFits (Some s) (js.Code (script_senses s) (script_tails x))
@@ -111,16 +117,26 @@ at-fits (InRegexp false e) t = within-fits (within_escape t || is_cut_markup t.m
 at-fits (InTemplate e d) t = tt
 at-fits TooDeep t = tt
 
-body-fits : (x y : Bool) (o : Option Sense) (p : Option Spot) (q : Quoting) (t : Tag) → SpotFits o p
-    → WhereFits o (value_spot t (quotes_at q) (if x then option_map (λ (z : Spot). body.Js (script_place z)) (if y then p else None) else None))
-body-fits true true o (Some p) q t h = h
-body-fits true true o None q t h = tt
-body-fits true false o p q t h = tt
-body-fits false y o p q t h = tt
+js-fits : (x y : Bool) (o : Option Sense) (p : Option Spot) → SpotFits o p → OptionFits o (if x then option_map script_place (if y then p else None) else None)
+js-fits true true o (Some p) h = h
+js-fits true true o None h = tt
+js-fits true false o p h = tt
+js-fits false y o p h = tt
+
+script-js-fits : (s : ScriptState) → OptionFits (sense_at_text s.at) (script_js s)
+script-js-fits s =
+    js-fits (script_may_begin_text s) (is_empty s.literals && is_empty s.held) (sense_at_text s.at) (spot_at s.at s.trail) (at-fits s.at s.trail)
+
+in-value-fits : (o : Option Sense) (c : Option Js) (q : Quoting) (t : Tag) → OptionFits o c → WhereFits o (value_spot t (quotes_at q) (option_map body.Js c))
+in-value-fits o (Some c) q t h = h
+in-value-fits o None q t h = tt
 
 script-fits : (s : ScriptState) (q : Quoting) (t : Tag) → WhereFits (sense_at_text s.at) (value_spot t (quotes_at q) (script_body s))
-script-fits s q t =
-    body-fits (script_may_begin_text s) (is_empty s.literals && is_empty s.held) (sense_at_text s.at) (spot_at s.at s.trail) q t (at-fits s.at s.trail)
+script-fits s q t = in-value-fits (sense_at_text s.at) (script_js s) q t (script-js-fits s)
+
+in-element-fits : (o : Option Sense) (c : Option Js) → OptionFits o c → WhereFits o (option_map place.Script c)
+in-element-fits o (Some c) h = h
+in-element-fits o None h = tt
 
 -- elsewhere
 second-fits : (x : Bool) (o : Option Sense) (p : Place) → WhereFits o (Some p) → WhereFits o (if x then None else Some p)
@@ -176,29 +192,35 @@ block-place-fits element.Script x = tt
 block-place-fits element.Style x = tt
 block-place-fits element.Other x = tt
 
-language-fits : (e : Element) (v : ValueState) → WhereFits None (content_spot Nothing (InLanguage v) e)
-language-fits element.Style (OfStyle s) = element-fits (style_css s)
-language-fits element.Style (OfKind k) = tt
-language-fits element.Style (OfUrl u) = tt
-language-fits element.Style (OfScript s) = tt
-language-fits element.Title v = tt
-language-fits element.Textarea v = tt
-language-fits element.DataBlock v = tt
-language-fits element.Script v = tt
-language-fits element.Other v = tt
+language-fits : (h : Pending) (e : Element) (v : ValueState) → WhereFits (slash_sense (InContent e (InLanguage v) h)) (content_spot h (InLanguage v) e)
+language-fits Nothing element.Script (OfScript s) = in-element-fits (sense_at_text s.at) (script_js s) (script-js-fits s)
+language-fits Nothing element.Script (OfKind k) = tt
+language-fits Nothing element.Script (OfUrl u) = tt
+language-fits Nothing element.Script (OfStyle s) = tt
+language-fits Nothing element.Style (OfStyle s) = element-fits (style_css s)
+language-fits Nothing element.Style (OfKind k) = tt
+language-fits Nothing element.Style (OfUrl u) = tt
+language-fits Nothing element.Style (OfScript s) = tt
+language-fits Nothing element.Title v = tt
+language-fits Nothing element.Textarea v = tt
+language-fits Nothing element.DataBlock v = tt
+language-fits Nothing element.Other v = tt
+language-fits LessAtCut e v = tt
+language-fits PendingLess e v = tt
+language-fits (PendingName letters) e v = tt
+language-fits PendingBang e v = tt
+language-fits PendingBangDash e v = tt
+language-fits (PendingOpening letters) e v = tt
 
-content-fits : (h : Pending) (y : Content ValueState) (e : Element) → WhereFits None (content_spot h y e)
-content-fits Nothing (Characters Closed) e = rest-fits e
-content-fits Nothing (Characters (Open f bytes)) e = tt
-content-fits Nothing Bytes e = block-place-fits e false
-content-fits Nothing (InLanguage v) e = language-fits e v
-content-fits LessAtCut Bytes e = block-place-fits e true
-content-fits LessAtCut (Characters r) e = tt
-content-fits LessAtCut (InLanguage v) e = tt
-content-fits PendingLess y e = tt
-content-fits (PendingName letters) y e = tt
-content-fits PendingBang y e = tt
-content-fits PendingBangDash y e = tt
+characters-fits : (h : Pending) (r : Reference) (e : Element) → WhereFits None (content_spot h (Characters r) e)
+characters-fits Nothing Closed e = rest-fits e
+characters-fits Nothing (Open f bytes) e = tt
+characters-fits _ r e = tt
+
+bytes-fits : (h : Pending) (e : Element) → WhereFits None (content_spot h Bytes e)
+bytes-fits Nothing e = block-place-fits e false
+bytes-fits LessAtCut e = block-place-fits e true
+bytes-fits _ e = tt
 
 fits : (s : LexState ValueState) → WhereFits (slash_sense s) (placed s)
 fits (Text Closed) = tt
@@ -230,11 +252,15 @@ fits (AttributeValue q t (Deciding k before) Closed) = tt
 fits (AttributeValue q t v (Open f bytes)) = tt
 fits (AfterAttributeValue t) = tt
 fits (SelfClosingStartTag t) = tt
-fits (InContent e y h) = content-fits h y e
-fits Unread = tt
+fits (InContent e (Characters r) h) = characters-fits h r e
+fits (InContent e Bytes h) = bytes-fits h e
+fits (InContent e (InLanguage v) h) = language-fits h e v
 
 fits-at : (s : LexState ValueState) (u : ValuePlace) (i : Js) → placed s ≡ Some (place.Value u) → u.body ≡ body.Js i → JsFits (slash_sense s) i
 fits-at s u i e b = subst (BodyFits (slash_sense s)) b (subst (WhereFits (slash_sense s)) e (fits s))
+
+fits-in-element : (s : LexState ValueState) (c : Js) → placed s ≡ Some (place.Script c) → JsFits (slash_sense s) c
+fits-in-element s c e = subst (WhereFits (slash_sense s)) e (fits s)
 
 -- what a value has of this, its script has
 quotes-no-div : (q : Quotes) (x : Bool) → (quotes_have q member.SenseDiv || x) ≡ true → x ≡ true
@@ -255,12 +281,22 @@ pub record ScriptAbove (p : Place) : Type 0 where
   pub script : value.body ≡ body.Js all
   pub differ : script_differs (script_scan_start all) ≡ true
 
+pub record ElementAbove (p : Place) : Type 0 where
+  pub all : Js
+  pub is : p ≡ place.Script all
+  pub differ : script_differs (script_scan_start all) ≡ true
+
+pub data DiffersAt (p : Place) : Type 0 where
+  in_value : ScriptAbove p → DiffersAt p
+  in_element : ElementAbove p → DiffersAt p
+
 value-above : (v : ValuePlace) (x : Body) → v.body ≡ x → body_differs x ≡ true → ScriptAbove (place.Value v)
 value-above v (body.Js j) d h = record { value = v; all = j; is = refl; script = d; differ = h }
 value-above v _ d h = absurd (no h)
 
-pub script-above : (p : Place) → scan_differs (scans.At p) ≡ true → ScriptAbove p
-script-above (place.Value v) h = value-above v v.body refl h
+pub script-above : (p : Place) → scan_differs (scans.At p) ≡ true → DiffersAt p
+script-above (place.Value v) h = in_value (value-above v v.body refl h)
+script-above (place.Script j) h = in_element (record { all = j; is = refl; differ = h })
 script-above _ h = absurd (no h)
 
 script-of : (b : Body) (j : Js) → joined_bodies b (body.Js j) ≡ Some (body.Js j) → (i : Js) × (b ≡ body.Js i)
@@ -285,16 +321,38 @@ own-script p a w l =
     let i = script-of u.0.body w.all (subst (λ (x : Body). joined_bodies u.0.body x ≡ Some x) w.script d.body) in
     record { value = u.0; own = i.0; is = u.1; script = i.1 }
 
-pub bears-div : (p : Place) (s : LexState ValueState) → ScriptAbove p → IsIn p s → Bears s member.SenseDiv → slash_sense s ≡ Some sense.Div
-bears-div p s w i b =
+value-div : (p : Place) (s : LexState ValueState) → ScriptAbove p → IsIn p s → Bears s member.SenseDiv → slash_sense s ≡ Some sense.Div
+value-div p s w i b =
     let o = own-script p i.own w i.below in
     let h : Has (place.Value o.value) member.SenseDiv = subst (λ (a : Place). Has a member.SenseDiv) o.is (own-has p s member.SenseDiv i b) in
     (fits-at s o.value o.own (i.stands ∙ ap Some o.is) o.script).div
     (subst (λ (x : Body). body_has x member.SenseDiv ≡ true) o.script (quotes-no-div o.value.quotes (body_has o.value.body member.SenseDiv) h))
 
-pub bears-re : (p : Place) (s : LexState ValueState) → ScriptAbove p → IsIn p s → Bears s member.SenseRe → slash_sense s ≡ Some sense.Re
-bears-re p s w i b =
+value-re : (p : Place) (s : LexState ValueState) → ScriptAbove p → IsIn p s → Bears s member.SenseRe → slash_sense s ≡ Some sense.Re
+value-re p s w i b =
     let o = own-script p i.own w i.below in
     let h : Has (place.Value o.value) member.SenseRe = subst (λ (a : Place). Has a member.SenseRe) o.is (own-has p s member.SenseRe i b) in
     (fits-at s o.value o.own (i.stands ∙ ap Some o.is) o.script).re
     (subst (λ (x : Body). body_has x member.SenseRe ≡ true) o.script (quotes-no-re o.value.quotes (body_has o.value.body member.SenseRe) h))
+
+-- in the element the place has what its script has
+own-in-element : (p a : Place) → ElementAbove p → Below a p → (c : Js) × (a ≡ place.Script c)
+own-in-element p a w l = under-script (λ (d : Place). (c : Js) × (d ≡ place.Script c)) w.all (λ c m. (c, refl)) a (subst (Below a) w.is l)
+
+element-div : (p : Place) (s : LexState ValueState) → ElementAbove p → IsIn p s → Bears s member.SenseDiv → slash_sense s ≡ Some sense.Div
+element-div p s w i b =
+    let o = own-in-element p i.own w i.below in
+    (fits-in-element s o.0 (i.stands ∙ ap Some o.1)).div (subst (λ (a : Place). Has a member.SenseDiv) o.1 (own-has p s member.SenseDiv i b))
+
+element-re : (p : Place) (s : LexState ValueState) → ElementAbove p → IsIn p s → Bears s member.SenseRe → slash_sense s ≡ Some sense.Re
+element-re p s w i b =
+    let o = own-in-element p i.own w i.below in
+    (fits-in-element s o.0 (i.stands ∙ ap Some o.1)).re (subst (λ (a : Place). Has a member.SenseRe) o.1 (own-has p s member.SenseRe i b))
+
+pub bears-div : (p : Place) (s : LexState ValueState) → DiffersAt p → IsIn p s → Bears s member.SenseDiv → slash_sense s ≡ Some sense.Div
+bears-div p s (in_value w) i b = value-div p s w i b
+bears-div p s (in_element w) i b = element-div p s w i b
+
+pub bears-re : (p : Place) (s : LexState ValueState) → DiffersAt p → IsIn p s → Bears s member.SenseRe → slash_sense s ≡ Some sense.Re
+bears-re p s (in_value w) i b = value-re p s w i b
+bears-re p s (in_element w) i b = element-re p s w i b

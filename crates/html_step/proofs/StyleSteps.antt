@@ -9,7 +9,7 @@ use Rattle.css_step.specs.StyleScanLaws.{IsStyleScan, scans_between, style_scann
 use Rattle.css_step.proofs.OneStylePath.{exact-on-one-style, one-style}
 use Rattle.css_step.proofs.StyleBodies.{body-after-cut}
 use Rattle.place_core.specs.page.Classes.{Class, White, QuotationMark, Apostrophe, LessThan, EqualsSign, GreaterThan, GraveAccent, class_of, is_equals_sign}
-use Rattle.place_core.specs.place.Errors.{byte_error, at_hand, content_error, bare_error, quotes_error, PathCause, fed_error, language_error, first_byte_error, is_written, first_cause, place_before_bytes, value_before, flushed_error}
+use Rattle.place_core.specs.place.Errors.{byte_error, at_hand, bare_error, quotes_error, PathCause, fed_error, language_error, first_byte_error, is_written, first_cause, place_before_bytes, value_before, flushed_error}
 use Rattle.place_core.specs.page.Html.{next, next_before_value, ends_value}
 use Rattle.place_core.specs.page.Paths.{at_cut}
 use Rattle.place_core.specs.page.References.{Reference, settled, undone_byte, as_it_stands, Closed, Open, Form, ReferenceStep, Grows, Closes, Breaks, turn, flushed, next_reference}
@@ -26,7 +26,7 @@ use Rattle.html_step.proofs.FedAlike.{beside, fed-alike, fed-beside, first-byte-
 use Rattle.html_step.proofs.StylePaths.{IsStyleAt, broken-here, empty_css, end-here, has-value, quoted-at, style-scan-cut, style-scan-error, style-scan-lexeme, style-scan-next, style-scan-place, style-scan-reference, style-scan-shown, style_unfinished, style_value, styles-alike}
 use Rattle.url_lexer.specs.States.{Url}
 use Rattle.url_lexer.specs.Triples.{NoTriple}
-use Rattle.html_step.proofs.PathScans.{scanned, style_value_scanned, value_scanned, Agrees, Ends, IsShown, ScriptFacts, ScriptsAgree, WhereScanned, none-at-hand, same-with, some, tag-ends, with-fed}
+use Rattle.html_step.proofs.PathScans.{scanned, style_value_scanned, value_scanned, Agrees, Ends, IsShown, ScriptFacts, ScriptsAgree, WhereScanned, same-with, some, tag-ends, with-fed}
 
 -- Styles: what the bytes that are fed make of the scan state
 pub style-there : (q : Quoting) (t : Tag) (z : Value ValueState) (n : StyleScan) (r : Reference) → IsStyleAt z n
@@ -56,7 +56,7 @@ style-next DoubleQuoted t s n r c b i l e = style-goes DoubleQuoted t s n r c b 
 style-next SingleQuoted t s n r Apostrophe b i l e = rw (same-with t (settled true r) (OfStyle s)) refl
 style-next SingleQuoted t s n r c b i l e = style-goes SingleQuoted t s n r c b i l
 style-next Unquoted t s n r White b i l e = rw (same-with t (settled true r) (OfStyle s)) refl
-style-next Unquoted t s n r GreaterThan b i l e = rw (same-with t (settled true r) (OfStyle s)) (tag-ends t.tag (none-at-hand (content_error t.tag) e))
+style-next Unquoted t s n r GreaterThan b i l e = rw (same-with t (settled true r) (OfStyle s)) (tag-ends t.tag)
 style-next Unquoted t s n r QuotationMark b i l e = absurd (some _ e)
 style-next Unquoted t s n r Apostrophe b i l e = absurd (some _ e)
 style-next Unquoted t s n r LessThan b i l e = absurd (some _ e)
@@ -74,7 +74,7 @@ begin-style : (t : Tag) (c : Class) (b : ℕ) → first_byte_error style_feeding
 begin-style t White b l n = refl
 begin-style t QuotationMark b l n = refl
 begin-style t Apostrophe b l n = refl
-begin-style t GreaterThan b l n = tag-ends t.tag (none-at-hand _ n)
+begin-style t GreaterThan b l n = tag-ends t.tag
 begin-style t LessThan b l n = absurd (some _ n)
 begin-style t EqualsSign b l n = absurd (some _ n)
 begin-style t GraveAccent b l n = absurd (some _ n)

@@ -1,8 +1,7 @@
 -- Each member after a byte of a value that is a style, and after its end, comes from one member before it.
-use Rattle.std.proofs.Common.{◌≡◌, ℕ, ◌+◌, ◌-◌, Bool, true, false, ◌||◌, ◌&&◌, List, [], ◌∷◌, ◌++◌, length, Option, Some, None, option_map, if◌then◌else◌, refl, sym, ap, ◌∙◌, subst}
+use Rattle.std.proofs.Common.{◌≡◌, ℕ, ◌+◌, ◌-◌, Bool, true, false, ◌||◌, ◌&&◌, List, [], ◌∷◌, ◌++◌, length, Some, None, if◌then◌else◌, refl, sym, ap, ◌∙◌, subst, ⊎_elim}
 use Rattle.std.specs.Prelude.{encode_utf8}
 use Rattle.css_lexer.specs.Classes.{style_class}
-use Rattle.css_lexer.specs.Escapes.{NoEscape, AfterBackslash, HexDigits, AfterReturn}
 use Rattle.css_lexer.specs.States.{DoubleQuote, SingleQuote}
 use Rattle.css_step.specs.StyleOrigins.{scan_set_has, style_scan_has}
 use Rattle.css_step.specs.StyleScans.{StyleScan, ScanCode, ScanWord, ScanSplitEscape, ScanSolidus, ScanLessThan, ScanComment, ScanStarBefore, ScanString, ScanFresh, ScanBareUrl, ScanQuotedUrl, ScanEnded, is_style_start, style_scan_error, style_scan_next, style_scan_place, style_scan_start}
@@ -10,7 +9,6 @@ use Rattle.css_step.specs.StyleSetLaws.{StyleScanBelow}
 use Rattle.css_step.specs.StyleTexts.{TakesStyle}
 use Rattle.css_step.proofs.StyleGrowth.{empty-texts-keep-styles}
 use Rattle.place_core.specs.page.Classes.{Class, White, QuotationMark, Apostrophe, LessThan, EqualsSign, GreaterThan, GraveAccent, is_equals_sign}
-use Rattle.place_core.specs.page.Html.{ends_value}
 use Rattle.place_core.specs.page.References.{Form, Reference, Closed, Open, ReferenceStep, Grows, Closes, Breaks, as_it_stands, flushed, meaning, next_reference, plain_bytes, turn, turn_bytes, undone_byte}
 use Rattle.place_core.specs.page.Tags.{feed_bytes, style_code}
 use Rattle.place_core.specs.place.Errors.{at_hand, bare_error, body_error, cause_back, fed_error, flushed_error, is_unknown_name, is_written, language_error, name_error, quotes_error, turned_error, value_error}
@@ -22,7 +20,6 @@ use Rattle.place_core.specs.place.StatePlaces.{only_before, unbegun}
 use Rattle.place_core.specs.declared.bare.Bare.{Bare}
 use Rattle.place_core.specs.declared.body.Body.{Body}
 use Rattle.place_core.specs.declared.body.Body.TheVariants as body
-use Rattle.place_core.specs.declared.code.Code.{Code}
 use Rattle.place_core.specs.declared.code.Code.TheVariants as code
 use Rattle.place_core.specs.declared.css.Css.{Css}
 use Rattle.place_core.specs.declared.css.Css.TheVariants as css
@@ -35,13 +32,13 @@ use Rattle.place_core.specs.declared.value_place.ValuePlace.{ValuePlace}
 use Rattle.place_core.proofs.Semilattices.{no_map, none_some}
 use Rattle.place_core.proofs.Joins.{places_same}
 use Rattle.html_scan.specs.Scans.{Scan, At, InStyle, bare_begun, bare_leads, bare_white, body_cause, content_scan, empty_style_between, in_tag, quoted_error, quotes_lead, scan_cut_error, scan_next, scan_place, style_cause, style_fed, style_feeding, style_scan, style_value_next, value_between, value_cause, value_fed, value_next, with_quotes, with_style, written_error}
-use Rattle.html_step.specs.Origins.{body_origin, fed_in, in_value_origin, style_end_origin, style_fed_origin, typed_origin, value_origin}
+use Rattle.html_step.specs.Origins.{body_origin, fed_in, in_body_origin, in_value_origin, style_end_origin, style_fed_origin, typed_origin, unsensed, value_origin}
 use Rattle.html_step.proofs.BelowScans.{below-at-value, below-style, whole-in}
 use Rattle.html_step.proofs.FromParts.{first-no-cause, no-cause-back, or-behind, or-either, or-first}
-use Rattle.html_step.proofs.FromValues.{From, FromEnd, content-whole, part-kept, typed-more}
+use Rattle.html_step.proofs.FromValues.{From, FromEnd, content-from, url-kept, typed-more}
 use Rattle.html_step.proofs.PathScans.{none-at-hand, some}
 use Rattle.html_step.proofs.PlaceParts.{Under, below-value}
-use Rattle.html_step.proofs.ScanOrder.{BegunWhereOpen, HasBegun, ScanBelow, ScanHas, ScanValid, StyleValueBelow, bare-parts, bare-white, begun-open, begun-valid, first-none, if-none, starts-in-order}
+use Rattle.html_step.proofs.ScanOrder.{BegunWhereOpen, HasBegun, ScanHas, ScanValid, StyleValueBelow, bare-parts, bare-white, begun-open, begun-valid, first-none, if-none, starts-in-order}
 use Rattle.html_step.proofs.StyleOrder.{style-fed-grow}
 use Rattle.url_lexer.specs.Triples.{NoTriple}
 use Rattle.html_step.proofs.FedAlike.{BegunIf}
@@ -126,7 +123,7 @@ style-out v n (Open f l) y h = h
 
 -- Where the members come from, before the bytes that the style is fed.
 abbrev pub StyleOrigin : List ℕ → StyleScan → Member → Member
-StyleOrigin bytes n y = style_fed_origin bytes n (in_value_origin y)
+StyleOrigin bytes n y = style_fed_origin bytes n (unsensed (in_value_origin y))
 
 whole-origin : (bytes : List ℕ) (n : StyleScan) (y : Member) → is_whole y ≡ true → StyleOrigin bytes n y ≡ member.Whole
 whole-origin bytes n member.Whole h = style-fed-whole bytes n
@@ -148,22 +145,22 @@ spot-origin bytes n member.BeforeSpot h = style-fed-whole bytes n
 spot-origin bytes n _ h = absurd (no h)
 
 -- a member of a scan state stays as it is, and is none of the others
-tails-kept : (x : CssTails) (y : Member) → css_tails_have x y ≡ true → in_value_origin y ≡ y
+tails-kept : (x : CssTails) (y : Member) → css_tails_have x y ≡ true → unsensed (in_value_origin y) ≡ y
 tails-kept x member.CssWord h = refl
 tails-kept x member.CssSlash h = refl
 tails-kept x member.CssLt h = refl
 tails-kept x _ h = absurd (no h)
 
-star-kept : (y : Member) → css_star_has true y ≡ true → in_value_origin y ≡ y
+star-kept : (y : Member) → css_star_has true y ≡ true → unsensed (in_value_origin y) ≡ y
 star-kept member.CssStar h = refl
 star-kept _ h = absurd (no h)
 
-set-kept : (n : StyleScan) (y : Member) → scan_set_has n y ≡ true → in_value_origin y ≡ y
+set-kept : (n : StyleScan) (y : Member) → scan_set_has n y ≡ true → unsensed (in_value_origin y) ≡ y
 set-kept (ScanCode x) y h = tails-kept x y h
 set-kept (ScanSplitEscape e) y h = tails-kept (style_tails true false false) y h
 set-kept ScanStarBefore y h = star-kept y h
-set-kept (ScanBareUrl s t) y h = part-kept s y h
-set-kept (ScanQuotedUrl q e s t) y h = part-kept s y h
+set-kept (ScanBareUrl s t) y h = url-kept s y h
+set-kept (ScanQuotedUrl q e s t) y h = url-kept s y h
 set-kept _ y h = absurd (no h)
 
 set-untyped : (n : StyleScan) → scan_set_has n member.Typed ≡ true → ⊥
@@ -236,7 +233,8 @@ alike-there u v k n bytes f g y (style_tags e i) h =
     (λ k. or-either (style_has v.typed v.quotes n X ≡ true) (typed_has v.typed y) (spots_have only_before y) k
     (λ l. there-typed v n X (typed-origin bytes n v.typed y l)) (λ l. there-whole v n X (spot-origin bytes n y l)))
 alike-there u v k n bytes f g y (style_ends e i) h =
-    there-whole v n (StyleOrigin bytes n y) (whole-origin bytes n y (content-whole v.tag y (subst (λ (x : Scan). ScanHas x y) i h)))
+    ⊎_elim (λ k. there-whole v n (StyleOrigin bytes n y) (whole-origin bytes n y k))
+    (λ k. there-whole v n (StyleOrigin bytes n y) (ap (StyleOrigin bytes n) k ∙ style-fed-whole bytes n)) (content-from v.tag y (subst (λ (x : Scan). ScanHas x y) i h))
 alike-there u v k n bytes f g y (style_goes q a into out) h =
     let X = StyleOrigin bytes n y in
     style-cases (style_has v.typed v.quotes n X ≡ true) v.typed q (feed_bytes style_feeding n bytes) y (out y h)
@@ -264,9 +262,9 @@ set-leads u k n bytes y a l h o =
     let x = style_fed_origin bytes n y in
     f.leads k l (out-scan n k u.typed u.quotes x f.there (subst (λ (m : Member). style_has u.typed u.quotes k (style_fed_origin bytes n m) ≡ true) kept o))
 
-pub alike-leads : (u v : ValuePlace) (k n : StyleScan) (bytes : List ℕ) (f g : Scan) (y : Member) → StyleAlike u v k n bytes f g → StyleScanBelow k n
+pub alike-leads : (u v : ValuePlace) (k n : StyleScan) (bytes : List ℕ) (f g : Scan) (y : Member) → u.tag ≡ v.tag → StyleAlike u v k n bytes f g → StyleScanBelow k n
     → ScanHas g y → style_has u.typed u.quotes k (StyleOrigin bytes n y) ≡ true → ScanHas f y
-alike-leads u v k n bytes f g y (style_tags e i) d h o =
+alike-leads u v k n bytes f g y t (style_tags e i) d h o =
     or-either (ScanHas f y) (is_whole y) (typed_has v.typed y || spots_have only_before y) (subst (λ (x : Scan). ScanHas x y) i h)
     (λ j. whole-in f y j)
     (λ j. subst (λ (x : Scan). ScanHas x y) (sym e)
@@ -274,8 +272,8 @@ alike-leads u v k n bytes f g y (style_tags e i) d h o =
     (or-either ((typed_has u.typed y || spots_have only_before y) ≡ true) (typed_has v.typed y) (spots_have only_before y) j
     (λ l. or-first (typed_has u.typed y) (spots_have only_before y) (seen u v k n bytes y l o))
     (λ l. or-behind (typed_has u.typed y) (spots_have only_before y) l))))
-alike-leads u v k n bytes f g y (style_ends e i) d h o = whole-in f y (content-whole v.tag y (subst (λ (x : Scan). ScanHas x y) i h))
-alike-leads u v k n bytes f g y (style_goes q a into out) d h o =
+alike-leads u v k n bytes f g y t (style_ends e i) d h o = subst (λ (x : Scan). ScanHas x y) (i ∙ sym (ap content_scan t) ∙ sym e) h
+alike-leads u v k n bytes f g y t (style_goes q a into out) d h o =
     let m = feed_bytes style_feeding k bytes in
     style-cases (ScanHas f y) v.typed q (feed_bytes style_feeding n bytes) y (out y h) (λ j. whole-in f y j)
     (λ j. into y (in-typed u.typed q m y (seen u v k n bytes y j o))) (λ j. into y (in-quotes u.typed q m y j))
@@ -423,7 +421,7 @@ from-in-style v n r c b y w e h =
       there = alike-there v v n n bytes (style_value_next v n r c b) (style_value_next v n r c b) y
           (in-alike v v n n r c b (begun-valid v.quotes w) (begun-stay v v n n v.quotes w) i (same-quotes v) t) h;
       leads = λ g z l o. below-style (λ (g : Scan). ScanValid g → ScanHas g x → ScanHas (scan_next g c b) y) v n r
-          (λ u k l z o. alike-leads u v k n bytes (style_value_next u k r c b) (style_value_next v n r c b) y
+          (λ u k l z o. alike-leads u v k n bytes (style_value_next u k r c b) (style_value_next v n r c b) y l.tag
           (in-alike u v k n r c b (begun-valid u.quotes z.0) (begun-stay u v k n u.quotes z.0) i l.quotes t) l.scan h o) g l z o;
     }
 
@@ -493,15 +491,15 @@ from-style-place v c b y p d w e h =
     let bytes = fed_in v.quotes Closed c b in
     let x = StyleOrigin bytes n y in
     let f = value_next v NoTriple Closed c b in
-    let same : value_origin v Closed c b y ≡ x = ap (λ (z : Body). body_origin z bytes (in_value_origin y)) d in
+    let same : value_origin v Closed c b y ≡ x = ap (λ (z : Body). body_origin z bytes (in_body_origin z y)) d in
     subst (From (At (place.Value v)) c b y) (sym same)
     (record {
       there = place-has v p x d (alike-there v v n n bytes f f y (place-alike v v p p c b d d w (same-quotes v) t) h);
       leads = λ g z l o. below-at-value (λ (g : Scan). ScanValid g → ScanHas g x → ScanHas (scan_next g c b) y) v
           (λ u l z o. let k = css-of u.body p (subst (λ (q : Body). joined_bodies u.body q ≡ Some q) d l.body) in
-          alike-leads u v (style_scan_start k.0) n bytes (value_next u NoTriple Closed c b) f y (place-alike u v k.0 p c b k.1 d z.0 l.quotes t) k.2 h (has-place u k.0 x k.1 o))
+          alike-leads u v (style_scan_start k.0) n bytes (value_next u NoTriple Closed c b) f y l.tag (place-alike u v k.0 p c b k.1 d z.0 l.quotes t) k.2 h (has-place u k.0 x k.1 o))
           (λ u k q i l z o. let s = one-css q p (sym i ∙ d) in
-          alike-leads u v k n bytes (style_value_next u k Closed c b) f y (mixed-alike u v k p c b d z.0 l.quotes t)
+          alike-leads u v k n bytes (style_value_next u k Closed c b) f y l.tag (mixed-alike u v k p c b d z.0 l.quotes t)
           (subst (λ (a : Css). StyleScanBelow k (style_scan_start a)) s l.scan) h o) g l z o;
     })
 

@@ -30,7 +30,7 @@ use Rattle.place_core.specs.declared.member.Member.TheVariants as member
 use Rattle.place_core.specs.declared.place.Place.{Place}
 use Rattle.place_core.specs.declared.quotes.Quotes.{Quotes}
 use Rattle.place_core.specs.declared.step_err.StepErr.{StepErr}
-use Rattle.html_scan.specs.Scans.{Scan, At, InStyle, InUrl, style_feeding, scan_reference, scan_cut_error, scan_error, scan_lexeme_error, scan_next, scan_place, InScript, begun_script_refusal, scan_script_cut_refusal, scan_script_refusal}
+use Rattle.html_scan.specs.Scans.{Scan, At, InStyle, InUrl, style_feeding, scan_reference, scan_cut_error, scan_error, scan_lexeme_error, scan_next, scan_place, InScript, begun_script_refusal, scan_script_cut_refusal, scan_script_refusal, InScriptElement}
 use Rattle.js_step.specs.ScriptScans.{script_scan_cut_error}
 use Rattle.html_step.proofs.ScriptBraces.{slash-earlier, fits-next}
 use Rattle.html_step.proofs.ScriptAlike.{told-none}
@@ -54,8 +54,9 @@ use Rattle.html_step.proofs.StyleShownSteps.{style-read-apart}
 use Rattle.html_step.proofs.OwnScans.{IsOwn}
 use Rattle.html_step.proofs.ShownBytes.{ApartShown, ShownByte, ShownCut, ShownLexeme, TwoShown, by_colon, by_style, by_white}
 use Rattle.html_step.proofs.ShownSteps.{evidence-byte, evidence-cut, evidence-lexeme, evidence-read, cut-quiet, end-there}
-use Rattle.html_step.proofs.UrlScans.{ScanPlain, below-reference, scan-plain}
+use Rattle.html_step.proofs.UrlScans.{ScanPlain, scan-plain}
 use Rattle.html_step.proofs.ValidSteps.{scan-valid}
+use Rattle.html_step.proofs.ScriptElementTexts.{in-element-byte, at-element-byte, in-element-end}
 
 abbrev pub ShownBytes : ℕ → TextRead → List ℕ → Scan → PathRefusal → EvidenceData → Type 0
 ShownBytes k since bytes f r (one x) =
@@ -284,7 +285,7 @@ next-stands : (s : LexState ValueState) (g f : Scan) (b : ℕ) (x : Member) → 
     → (byte_error s (class_of b) b ≡ None) × Stands (next languages Template s (class_of b) b) (scan_next g (class_of b) b) (scan_next f (class_of b) b) x
 next-stands s g f b x n z from st =
     let a = agrees-at s g b st.at in
-    let m = scan-grows g f (class_of b) b st.valid st.below n in (
+    let m = scan-grows g f (class_of b) b refl st.valid st.below n in (
       a.errors ∙ m.0,
       record {
         at = a.steps m.0;
@@ -310,9 +311,9 @@ earlier : (k : ℕ) (since : TextRead) (b : ℕ) (bs : List ℕ) (f : Scan) (r :
     → ShownBytes (k + 1) (scan_read_behind k since f (class_of b) b) bs (scan_next f (class_of b) b) r z
     → ShownBytes k since (b ∷ bs) f r (back_by f (class_of b) b z)
 earlier k since b bs f r (one x) v plain fit q n d =
-    (let o = from-byte f (class_of b) b x v n d.0 in (
+    (let o = from-byte f (class_of b) b x refl v n d.0 in (
       o.there,
-      λ g w l p i. let m = scan-grows g f (class_of b) b w l n in
+      λ g w l p i. let m = scan-grows g f (class_of b) b refl w l n in
           refused-later k (scan_script_refusal k since.fed g (class_of b) b) (scan_error g (class_of b) b) (Rest k since b bs g) r
           (quiet-below k since.fed f g (class_of b) b v w l q) m.0
           (ap (λ (y : TextRead). stepped (k + 1) y bs (scan_next g (class_of b) b)) (same-read k since f g (class_of b) b v w l q n)
@@ -321,8 +322,8 @@ earlier k since b bs f r (one x) v plain fit q n d =
     ))
 earlier k since b bs f r (two x y) v plain fit q n (inr d) = inr (slash-earlier k since b bs f r x y v fit q n d)
 earlier k since b bs f r (two x y) v plain fit q n (inl d) =
-    let o = from-byte f (class_of b) b x v n d.one in
-    let p = from-byte f (class_of b) b y v n d.other in
+    let o = from-byte f (class_of b) b x refl v n d.one in
+    let p = from-byte f (class_of b) b y refl v n d.other in
     let at = d.at in
     inl (record {
       behind = suc d.behind;
@@ -347,6 +348,8 @@ from-script k since bytes f r apart d = absurd d
 script-evidence : (k : ℕ) (since : TextRead) (b : ℕ) (bs : List ℕ) (f : Scan) (r : PathRefusal) (z : EvidenceData) → ScanValid f → ScanFits f
     → script_shown f (class_of b) b ≡ Some z → stepped k since (b ∷ bs) f ≡ Err r → ScriptShownBytes k since (b ∷ bs) f r z
 script-evidence k since b bs (InScript v n x) r z w fit t h = in-script-byte k since b bs v n x r z w fit t h
+script-evidence k since b bs (InScriptElement m x) r z w fit t h = in-element-byte k since b bs m x r z w fit t h
+script-evidence k since b bs (At (place.Script j)) r z w fit t h = at-element-byte k since b bs j r z w t h
 script-evidence k since b bs (At (place.Value v)) r z w fit t h = at-script-byte k since b bs v r z w t h
 script-evidence k since b bs (At _) r z w fit t h = absurd (none_some z t)
 script-evidence k since b bs _ r z w fit t h = absurd (none_some z t)
@@ -354,6 +357,7 @@ script-evidence k since b bs _ r z w fit t h = absurd (none_some z t)
 script-end-evidence : (k : ℕ) (since : TextRead) (f : Scan) (r : PathRefusal) (z : EvidenceData) → ScanValid f → ScanFits f → script_end_shown f ≡ Some z → stepped k since [] f ≡ Err r
     → ScriptShownBytes k since [] f r z
 script-end-evidence k since (InScript v n x) r z w fit t h = in-script-end k since v n x r z w fit t h
+script-end-evidence k since (InScriptElement m x) r z w fit t h = in-element-end k since m x r z w fit t h
 script-end-evidence k since _ r z w fit t h = absurd (none_some z t)
 
 -- the end, where a script refuses nothing
@@ -381,7 +385,7 @@ lexeme-cases k since f r None v n i e c q h = deep-cases k since f r since.deep 
 -- what shows nothing refuses nothing
 shown-cut : (f : Scan) → script_end_shown f ≡ None → script_cut f ≡ None
 shown-cut (InScript v n r) t =
-    (told-none (as_it_stands r) script_scan_cut_error n (no_map (script_back n) (script_told_shown script_scan_cut_error (as_it_stands r) n) t)).1
+    (told-none false (as_it_stands r) script_scan_cut_error n (no_map (script_back n) (script_told_shown false script_scan_cut_error (as_it_stands r) n) t)).1
 shown-cut _ t = refl
 
 absurd-cut : (f : Scan) (x : PathCause) → script_end_shown f ≡ None → scan_cut_error f ≡ Some x → (k : ℕ) (places : List ℕ) (g : Scan) → ScanBelow g f

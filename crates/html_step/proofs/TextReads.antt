@@ -1,6 +1,6 @@
 -- How far the code has come with a text: what it knows of the bytes that have been read is what the definition keeps of them, but for the places of the bytes
 -- of a script that is open no more.
-use Rattle.std.proofs.Common.{◌≡◌, ◌<◌, ◌+◌, ℕ, List, [], ◌∷◌, length, drop, get_or, Option, Some, None, Result, Err, refl, sym, ap, ◌∙◌, subst, arith}
+use Rattle.std.proofs.Common.{◌≡◌, ◌<◌, ◌+◌, ℕ, List, [], length, drop, get_or, Option, Some, None, Result, refl, sym, ap, ◌∙◌, arith}
 use Rattle.std.proofs.lemmas.List.{drop_all, drop_more}
 use Rattle.place_core.specs.page.Classes.{Class, class_of}
 use Rattle.place_core.specs.place.Errors.{PathCause, PathRefusal, TextRead, or_deep}

@@ -1,7 +1,7 @@
 -- The place of a path in a URL has the part of the path alone.
 use Rattle.js_lexer.specs.States.{ScriptState}
 use Rattle.js_step.proofs.ScriptPaths.{script-paths-are-scanned}
-use Rattle.place_core.specs.place.ScriptParts.{script_body}
+use Rattle.place_core.specs.place.ScriptParts.{script_body, script_js}
 use Rattle.std.proofs.Common.{◌≡◌, Bool, true, false, Option, Some, None, option_map, if◌then◌else◌, refl, sym, ◌∙◌, subst}
 use Rattle.css_lexer.specs.Escapes.{StyleEscape, NoEscape, AfterBackslash, HexDigits, AfterReturn}
 use Rattle.css_lexer.specs.PartSpots.{has_read_nothing}
@@ -14,12 +14,13 @@ use Rattle.place_core.specs.place.StyleParts.{style_body, style_css, style_place
 use Rattle.place_core.specs.page.References.{Closed, Open}
 use Rattle.place_core.specs.place.StatePlaces.{content_spot, only_after, only_inside, placed, quotes_at, tag_spot, value_spot}
 use Rattle.place_core.specs.place.UrlParts.{parts_of}
-use Rattle.place_core.specs.page.States.{LexState, Text, TagOpen, EndTagOpen, DeclarationOpen, InComment, Started, StartedDash, Inside, Dash, DashDash, Bang, Broken, BogusComment, InDoctype, TagName, WholeTagName, BeforeAttributeName, AttributeName, WholeAttributeName, AfterAttributeName, BeforeAttributeValue, AttributeValue, AfterAttributeValue, SelfClosingStartTag, Content, Characters, Bytes, InLanguage, Pending, Nothing, PendingLess, PendingName, PendingBang, PendingBangDash, InContent, Unread, LessAtCut}
+use Rattle.place_core.specs.page.States.{LexState, Text, TagOpen, EndTagOpen, DeclarationOpen, InComment, Started, StartedDash, Inside, Dash, DashDash, Bang, Broken, BogusComment, InDoctype, TagName, WholeTagName, BeforeAttributeName, AttributeName, WholeAttributeName, AfterAttributeName, BeforeAttributeValue, AttributeValue, AfterAttributeValue, SelfClosingStartTag, Content, Characters, Bytes, InLanguage, Pending, Nothing, PendingLess, PendingName, PendingBang, PendingBangDash, PendingOpening, InContent, LessAtCut}
 use Rattle.place_core.specs.page.Tags.{Tag, is_second_type, ValueOf, Deciding, ValueState, OfKind, OfUrl, OfStyle, OfScript, Quoting, DoubleQuoted}
 use Rattle.place_core.specs.declared.body.Body.{Body}
 use Rattle.place_core.specs.declared.body.Body.TheVariants as body
 use Rattle.place_core.specs.declared.css.Css.{Css}
 use Rattle.place_core.specs.declared.css.Css.TheVariants as css
+use Rattle.place_core.specs.declared.js.Js.{Js}
 use Rattle.place_core.specs.declared.element.Element.{Element}
 use Rattle.place_core.specs.declared.element.Element.TheVariants as element
 use Rattle.place_core.specs.declared.kind.Kind.{Kind}
@@ -93,6 +94,7 @@ content-fits PendingLess x e i = tt
 content-fits (PendingName letters) x e i = tt
 content-fits PendingBang x e i = tt
 content-fits PendingBangDash x e i = tt
+content-fits (PendingOpening letters) x e i = tt
 content-fits Nothing (InLanguage v) e i = absurd i
 content-fits LessAtCut (InLanguage v) e i = absurd i
 
@@ -201,17 +203,26 @@ script-fits (Some x) s q t e =
     let j = script-paths-are-scanned.is_script s x e in
     subst (λ (z : Body). WhereFits None (value_spot t (quotes_at q) (Some z))) (sym j.1) refl
 
+script-element-fits : (o : Option Js) → WhereFits None (option_map place.Script o)
+script-element-fits (Some c) = tt
+script-element-fits None = tt
+
 language-fits : (h : Pending) (e : Element) (v : ValueState) → WhereFits (url_part_at (InContent e (InLanguage v) h)) (content_spot h (InLanguage v) e)
 language-fits Nothing element.Style (OfStyle s) = element-fits s
 language-fits Nothing element.Style (OfKind k) = tt
 language-fits Nothing element.Style (OfUrl u) = tt
 language-fits Nothing element.Style (OfScript v) = tt
+language-fits Nothing element.Script (OfScript s) = script-element-fits (script_js s)
+language-fits Nothing element.Script (OfKind k) = tt
+language-fits Nothing element.Script (OfUrl u) = tt
+language-fits Nothing element.Script (OfStyle s) = tt
 language-fits Nothing _ v = tt
 language-fits LessAtCut e v = tt
 language-fits PendingLess e v = tt
 language-fits (PendingName letters) e v = tt
 language-fits PendingBang e v = tt
 language-fits PendingBangDash e v = tt
+language-fits (PendingOpening letters) e v = tt
 
 fits : (s : LexState ValueState) → WhereFits (url_part_at s) (placed s)
 fits (Text Closed) = tt
@@ -246,7 +257,6 @@ fits (SelfClosingStartTag t) = tt
 fits (InContent e (Characters r) h) = content-fits h (Characters r) e tt
 fits (InContent e Bytes h) = content-fits h Bytes e tt
 fits (InContent e (InLanguage v) h) = language-fits h e v
-fits Unread = tt
 
 fits-at : (s : LexState ValueState) (a : Place) → placed s ≡ Some a → Fits (url_part_at s) a
 fits-at s a e = subst (WhereFits (url_part_at s)) e (fits s)

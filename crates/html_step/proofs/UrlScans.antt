@@ -1,11 +1,11 @@
 -- Scan states of URLs, which may be in a style: their parts, and the reference that is open in them, where a byte leads.
-use Rattle.std.proofs.Common.{◌≡◌, ◌≤◌, ℕ, ◌+◌, Bool, true, false, ◌⊎◌, inl, inr, List, [], ◌∷◌, ◌++◌, codes, length, Option, Some, None, if◌then◌else◌, refl, sym, ap, ◌∙◌, subst, arith, length-append, ⊎_elim}
+use Rattle.std.proofs.Common.{◌≡◌, ◌≤◌, ℕ, ◌+◌, Bool, true, false, ◌⊎◌, inl, inr, List, [], ◌∷◌, ◌++◌, codes, length, Option, Some, None, if◌then◌else◌, refl, sym, ap, ◌∙◌, subst, arith, length-append}
 use Rattle.place_core.specs.page.Classes.{Class, White, Ampersand, ExclamationMark, QuotationMark, Apostrophe, HyphenMinus, Solidus, LessThan, EqualsSign, GreaterThan, Letter, class_of}
 use Rattle.place_core.specs.page.Comments.{Declaration, OpensComment, OpensDoctype, Undecided, OpensNothing, closes_comment, declared_by, next_comment}
-use Rattle.place_core.specs.page.Contents.{is_name_of, may_be_name_of}
+use Rattle.place_core.specs.page.Contents.{is_name_of, may_be_name_of, ScriptStep, Reads, EndsContent}
 use Rattle.place_core.specs.page.Html.{ends_value}
 use Rattle.place_core.specs.page.References.{Form, Reference, Closed, Open, ReferenceStep, Grows, Closes, Breaks, begin_reference, next_reference, reference_turned, turn, undone_byte}
-use Rattle.place_core.specs.page.States.{CommentState, Inside, Broken, Pending, Nothing, PendingLess, PendingName, PendingBang, PendingBangDash, LessAtCut}
+use Rattle.place_core.specs.page.States.{CommentState, Inside, Broken, Pending, Nothing, PendingLess, PendingName, PendingBang, PendingBangDash, PendingOpening, LessAtCut}
 use Rattle.place_core.specs.page.Tags.{element_on, feed_bytes, tag_of_name, Quoting, DoubleQuoted, SingleQuoted, Unquoted, Value, ValueState}
 use Rattle.place_core.specs.page.Words.{kind_of}
 use Rattle.place_core.specs.declared.body.Body.{Body}
@@ -28,7 +28,7 @@ use Rattle.place_core.specs.declared.tag_of.TagOf.TheVariants as tag
 use Rattle.place_core.specs.declared.tag_place.TagPlace.{TagPlace}
 use Rattle.place_core.specs.declared.value_place.ValuePlace.{ValuePlace}
 use Rattle.place_core.proofs.Semilattices.{none_some, one_value}
-use Rattle.html_scan.specs.Scans.{Scan, At, AfterLess, AfterLessSolidus, InDeclaration, InTagName, InAttributeName, InUrl, InStyle, InScript, InCommentEnd, InContentEnd, BeforeType, InType, InStyleElement, script_fed_next, script_value_next, element_less_next, element_name_next, element_next, element_pending_next, element_scan, released_next, after_type, attribute_name_next, bare_white, before_type_next, comment_closed, comment_next, comment_scan, comment_state, content_end_next, content_next, content_scan, declaration_next, end_name_next, ended_type, parts_feeding, pending_less_next, quoted_next, rest_place, scan_error, scan_next, tag_name_next, tag_next, triple_behind, type_begun, type_next, type_tag, url_scan, value_cause, value_fed, value_next, value_scan, with_parts, with_quotes, scan_reference, body_cause, quoted_error, style_cause, bare_begun, empty_style_between, quotes_lead, style_fed, style_feeding, style_scan, style_value_next, value_between, with_style}
+use Rattle.html_scan.specs.Scans.{Scan, At, AfterLess, AfterLessSolidus, InDeclaration, InTagName, InAttributeName, InUrl, InStyle, InScript, InCommentEnd, InContentEnd, BeforeType, InType, InStyleElement, script_fed_next, script_value_next, element_less_next, element_name_next, element_next, element_pending_next, released_next, after_type, attribute_name_next, bare_white, before_type_next, comment_closed, comment_next, comment_scan, comment_state, content_end_next, content_next, content_scan, declaration_next, end_name_next, ended_type, parts_feeding, pending_less_next, quoted_next, rest_place, scan_error, scan_next, tag_name_next, tag_next, triple_behind, type_begun, type_next, type_tag, url_scan, value_cause, value_fed, value_next, value_scan, with_parts, with_quotes, scan_reference, body_cause, quoted_error, style_cause, bare_begun, empty_style_between, quotes_lead, style_fed, style_feeding, style_scan, style_value_next, value_between, with_style, InScriptElement, behind_end_name, scan_by_step, script_scan_step}
 use Rattle.html_step.proofs.OnePath.{url-reference}
 use Rattle.html_step.specs.Origins.{body_parts, element_fed, end_name_fed, fed_in, is_apart, less_fed, loose_fed, scan_parts}
 use Rattle.html_scan.proofs.UrlsFed.{feed_more}
@@ -36,7 +36,7 @@ use Rattle.html_step.proofs.ElementsBelow.{under-element}
 use Rattle.html_step.proofs.Characters.{ReferencePlain, next-plain}
 use Rattle.html_step.proofs.ScanOrder.{BegunWhereOpen, HasBegun, ScanBelow, ScanValid, StyleUnder, StyleUnderPlace, UrlWithin, bare-parts, begun-open, first-none, if-none, parts-below, starts-in-order, style-below-place, under-body}
 use Rattle.html_step.proofs.ScriptPaths.{empty_js}
-use Rattle.js_step.specs.ScriptScans.{ScriptScan}
+use Rattle.js_step.specs.ScriptScans.{ScriptScan, script_scan_start}
 use Rattle.html_step.proofs.StyleOrder.{scan-of-start, start-place}
 use Rattle.html_step.proofs.StylePaths.{empty_css, style-scan-reference}
 use Rattle.html_step.proofs.StyleUrls.{KnownUrl, SameUrl, StaysInUrl, above-in-url, below-in-url, feeds, known-fed, known-unmet, known_none, scan-opened, stays-parts, stays-same, unmet-spells}
@@ -333,6 +333,8 @@ below-parts (InAttributeName t x n) (At y) s l h = absurd l
 below-parts (InAttributeName t x n) (InUrl v y r) s l h = absurd l
 below-parts (InAttributeName t x n) (InStyle v m r) s l h = absurd l
 below-parts (InAttributeName t x n) (InStyleElement m k) s l h = absurd l
+below-parts (InScriptElement n x) (InScriptElement m y) s l h = absurd (none_some s h)
+below-parts (InScriptElement n x) _ s l h = absurd l
 below-parts (InScript u n r) (At x) s l h = absurd l
 below-parts (InScript u n r) (InUrl v y z) s l h = absurd l
 below-parts (InScript u n r) (InStyle v m z) s l h = absurd l
@@ -399,6 +401,8 @@ below-reference (At x) (InStyleElement m k) l = absurd l
 below-reference (At x) _ l = refl
 below-reference (InUrl u t r) (InUrl v y z) l = l.2
 below-reference (InUrl u t r) _ l = absurd l
+below-reference (InScriptElement n x) (InScriptElement m y) l = refl
+below-reference (InScriptElement n x) _ l = absurd l
 below-reference (InAttributeName t x n) (InUrl v y z) l = absurd l
 below-reference (InAttributeName t x n) (InStyle v y z) l = absurd l
 below-reference (InAttributeName t x n) (InStyleElement m k) l = absurd l
@@ -663,6 +667,7 @@ element-closed n (PendingName letters) c b =
     name-closed n (may_be_name_of element.Style (letters ++ b ∷ [])) (is_name_of element.Style letters) c b letters
 element-closed n PendingBang c b = loose-closed (feed_bytes style_feeding n (codes "<!")) c b
 element-closed n PendingBangDash c b = loose-closed (feed_bytes style_feeding n (codes "<!-")) c b
+element-closed n (PendingOpening letters) c b = loose-closed (feed_bytes style_feeding n (codes "<" ++ letters)) c b
 
 pub record NextUrl (f : Scan) (s : Parts) (c : Class) (b : ℕ) : Type 0 where
   pub parts : (has_met (scan_next f c b) ≡ false) ⊎ (scan_parts (scan_next f c b) ≡ Some (feed_bytes parts_feeding s (scan_fed f c b)))
@@ -715,6 +720,7 @@ element-goes n (PendingName letters) c b s h =
     name-goes n (may_be_name_of element.Style (letters ++ b ∷ [])) (is_name_of element.Style letters) c b letters s h
 element-goes n PendingBang c b s h = released-goes (codes "<!") n c b s h
 element-goes n PendingBangDash c b s h = released-goes (codes "<!-") n c b s h
+element-goes n (PendingOpening letters) c b s h = released-goes (codes "<" ++ letters) n c b s h
 
 next-parts : (f : Scan) (s : Parts) (c : Class) (b : ℕ) → UrlOrStyle f s → PartsOrOut (scan_next f c b) s (scan_fed f c b)
 next-parts f s c b (by_url u) =
@@ -919,6 +925,7 @@ element-beside n m (PendingName letters) c b t s h i e met =
     name-beside n m (may_be_name_of element.Style (letters ++ b ∷ [])) (is_name_of element.Style letters) c b letters t s h i e met
 element-beside n m PendingBang c b t s h i e met = released-beside (codes "<!") n m c b t s h i e met
 element-beside n m PendingBangDash c b t s h i e met = released-beside (codes "<!-") n m c b t s h i e met
+element-beside n m (PendingOpening letters) c b t s h i e met = released-beside (codes "<" ++ letters) n m c b t s h i e met
 
 elements-go : (n m : StyleScan) (x : Pending) (c : Class) (b : ℕ) (t : Parts) → StyleScanBelow n m → style_scan_parts n ≡ Some t
     → has_met (element_pending_next m x c b) ≡ true → scan_parts (element_pending_next n x c b) ≡ Some (feed_bytes parts_feeding t (element_fed x c b))
@@ -1089,6 +1096,17 @@ element-unmet n (PendingName letters) c b h =
     name-unmet n (may_be_name_of element.Style (letters ++ b ∷ [])) (is_name_of element.Style letters) c b letters h
 element-unmet n PendingBang c b h = released-unmet (codes "<!") n c b h
 element-unmet n PendingBangDash c b h = released-unmet (codes "<!-") n c b h
+element-unmet n (PendingOpening letters) c b h = released-unmet (codes "<" ++ letters) n c b h
+
+-- in the element `script` nothing is a URL
+tag-fresh-behind : (c : Class) → IsFresh (behind_end_name c)
+tag-fresh-behind White = (refl, refl)
+tag-fresh-behind Solidus = (refl, refl)
+tag-fresh-behind c = (refl, refl)
+
+script-fresh : (n : ScriptScan) (step : ScriptStep) (c : Class) → IsFresh (scan_by_step n step c)
+script-fresh n (Reads bytes h) c = (refl, refl)
+script-fresh n (EndsContent letters) c = tag-fresh-behind c
 
 place-unmet : (p : Place) (c : Class) (b : ℕ) → scan_parts (At p) ≡ None → scan_error (At p) c b ≡ None → has_met (scan_next (At p) c b) ≡ false
 place-unmet place.Text c b h n = (text-fresh c b).0
@@ -1098,7 +1116,7 @@ place-unmet (place.Comment dash) c b h n = (comment-fresh (comment_state dash) c
 place-unmet (place.Rcdata e) c b h n = (loose-fresh c e).0
 place-unmet (place.Tag t) c b h n = (tag-fresh t c b).0
 place-unmet (place.Value x) c b h n = value-unmet x NoTriple Closed c b h
-place-unmet (place.Script j) c b h n = refl
+place-unmet (place.Script j) c b h n = (script-fresh (script_scan_start j) (script_scan_step (script_scan_start j) Nothing c b) c).0
 place-unmet (place.Style j) c b h n = element-unmet (style_scan_start j) Nothing c b h
 place-unmet (place.Block lt) c b h n = (loose-fresh c element.DataBlock).0
 
@@ -1110,7 +1128,7 @@ place-holds (place.Comment dash) c b = inl (comment-fresh (comment_state dash) c
 place-holds (place.Rcdata e) c b = inl (loose-fresh c e).1
 place-holds (place.Tag t) c b = inl (tag-fresh t c b).1
 place-holds (place.Value x) c b = value-holds x NoTriple Closed c b
-place-holds (place.Script j) c b = inl refl
+place-holds (place.Script j) c b = inl (script-fresh (script_scan_start j) (script_scan_step (script_scan_start j) Nothing c b) c).1
 place-holds (place.Style j) c b = inl (loose-closed (style_scan_start j) c b)
 place-holds (place.Block lt) c b = inl (loose-fresh c element.DataBlock).1
 
@@ -1171,6 +1189,7 @@ content-end-fresh PendingLess c b e = pending-less-fresh c e
 content-end-fresh PendingBang c b e = bang-fresh c b e
 content-end-fresh (PendingName letters) c b e = end-name-fresh (may_be_name_of e (letters ++ b ∷ [])) (is_name_of e letters) c b e letters
 content-end-fresh PendingBangDash c b e = loose-fresh c e
+content-end-fresh (PendingOpening letters) c b e = loose-fresh c e
 content-end-fresh LessAtCut c b e = loose-fresh c e
 content-end-fresh Nothing c b e = loose-fresh c e
 
@@ -1193,6 +1212,7 @@ type-fresh false c b t q v r = (refl, refl)
 
 pub scan-unmet : (f : Scan) (c : Class) (b : ℕ) → ScanValid f → scan_parts f ≡ None → scan_error f c b ≡ None → has_met (scan_next f c b) ≡ false
 scan-unmet (At p) c b v h n = place-unmet p c b h n
+scan-unmet (InScriptElement m x) c b v h n = (script-fresh m (script_scan_step m x c b) c).0
 scan-unmet (InUrl w t r) c b v h n = value-unmet w t r c b h
 scan-unmet (InStyle w s r) c b v h n = style-unmet w s r c b v.1 h
 scan-unmet (InScript w s r) c b v h n = script-unmet w s r c b v.1
@@ -1213,6 +1233,7 @@ next-holds (At p) c b = place-holds p c b
 next-holds (InUrl w t r) c b = value-holds w t r c b
 next-holds (InStyle w s r) c b = style-holds w s r c b
 next-holds (InScript w s r) c b = script-holds w s r c b
+next-holds (InScriptElement m x) c b = inl (script-fresh m (script_scan_step m x c b) c).1
 next-holds (InStyleElement s x) c b = inl (element-closed s x c b)
 next-holds AfterLess c b = inl (less-fresh c b).1
 next-holds AfterLessSolidus c b = inl (solidus-fresh c b).1

@@ -1,10 +1,10 @@
 -- A step leads from what is valid to what is valid.
-use Rattle.std.proofs.Common.{◌≡◌, ℕ, Bool, true, false, ◌||◌, List, [], ◌∷◌, ◌++◌, codes, Option, Some, None, if◌then◌else◌, refl, sym, subst}
+use Rattle.std.proofs.Common.{◌≡◌, inl, ℕ, Bool, true, false, ◌||◌, List, [], ◌∷◌, ◌++◌, codes, Option, Some, None, if◌then◌else◌, refl, sym, subst}
 use Rattle.place_core.specs.page.Classes.{Class, White, QuotationMark, Apostrophe, Solidus, LessThan, EqualsSign, GreaterThan, Letter, ExclamationMark, HyphenMinus}
 use Rattle.place_core.specs.page.Comments.{Declaration, OpensComment, OpensDoctype, Undecided, OpensNothing, closes_comment, declared_by, next_comment}
-use Rattle.place_core.specs.page.Contents.{is_name_of, may_be_name_of, pending_bytes}
+use Rattle.place_core.specs.page.Contents.{ScriptStep, Reads, EndsContent, is_name_of, may_be_name_of, pending_bytes}
 use Rattle.place_core.specs.place.Places.{IsValid, IsValidBody, IsValidTag, is_rcdata}
-use Rattle.place_core.specs.page.States.{CommentState, Inside, Broken, Pending, Nothing, PendingLess, PendingName, PendingBang, PendingBangDash, LessAtCut}
+use Rattle.place_core.specs.page.States.{CommentState, Inside, Broken, Pending, Nothing, PendingLess, PendingName, PendingBang, PendingBangDash, PendingOpening, LessAtCut}
 use Rattle.place_core.specs.page.Tags.{tag_of_name, element_on, feed_bytes, Quoting, DoubleQuoted, SingleQuoted, Unquoted, Value, ValueState}
 use Rattle.place_core.specs.page.Words.{kind_of}
 use Rattle.place_core.specs.declared.element.Element.{Element}
@@ -19,8 +19,9 @@ use Rattle.place_core.specs.declared.tag_of.TagOf.{TagOf}
 use Rattle.place_core.specs.declared.tag_of.TagOf.TheVariants as tag
 use Rattle.place_core.specs.declared.tag_place.TagPlace.{TagPlace}
 use Rattle.place_core.specs.declared.value_place.ValuePlace.{ValuePlace}
-use Rattle.html_scan.specs.Scans.{Scan, At, AfterLess, AfterLessSolidus, InDeclaration, InTagName, InAttributeName, InUrl, InStyle, InScript, InStyleElement, InCommentEnd, InContentEnd, element_less_next, element_name_next, element_next, element_pending_next, released_next, attribute_name_next, bare_begun, bare_white, comment_closed, comment_scan, comment_next, comment_state, content_end_next, content_scan, content_next, declaration_next, end_name_next, scan_next, scan_place, tag_name_next, tag_next, value_scan, BeforeType, InType, rest_place, content_end_place, pending_less_next, before_type_next, after_type, type_next, type_begun, type_tag, ended_type, parts_feeding, parts_with, triple_behind, url_scan, value_fed, with_parts, place_cause, scan_error, value_next, empty_style_between, quotes_lead, style_fed, style_feeding, style_scan, style_value_next, value_between, with_style, empty_script_between, script_fed_next, script_feeding, script_value_next}
+use Rattle.html_scan.specs.Scans.{Scan, At, AfterLess, AfterLessSolidus, InDeclaration, InTagName, InAttributeName, InUrl, InStyle, InScript, InScriptElement, InStyleElement, InCommentEnd, InContentEnd, behind_end_name, scan_by_step, script_scan_step, element_less_next, element_name_next, element_next, element_pending_next, released_next, attribute_name_next, bare_begun, bare_white, comment_closed, comment_scan, comment_next, comment_state, content_end_next, content_scan, content_next, declaration_next, end_name_next, scan_next, scan_place, tag_name_next, tag_next, value_scan, BeforeType, InType, rest_place, content_end_place, pending_less_next, before_type_next, after_type, type_next, type_begun, type_tag, ended_type, parts_feeding, parts_with, triple_behind, url_scan, value_fed, with_parts, place_cause, scan_error, value_next, empty_style_between, quotes_lead, style_fed, style_feeding, style_scan, style_value_next, value_between, with_style, script_fed_next, script_feeding, script_value_next}
 use Rattle.html_step.proofs.ScanOrder.{HasBegun, ScanValid, UrlWithin, begun-valid}
+use Rattle.html_step.proofs.ScriptElementOrder.{ScriptStepValid, element-byte-valid}
 use Rattle.html_step.proofs.ScriptOrder.{script-fed-valid, script-start-valid}
 use Rattle.html_step.proofs.ScriptPaths.{empty_js}
 use Rattle.html_step.proofs.StyleOrder.{start-valid, style-fed-valid}
@@ -47,6 +48,7 @@ content-valid tag.End = tt
 content-valid (tag.Start element.Title) = refl
 content-valid (tag.Start element.Textarea) = refl
 content-valid (tag.Start element.DataBlock) = tt
+content-valid (tag.Start element.Script) = refl
 content-valid (tag.Start _) = tt
 
 begins-valid : (t : TagOf) (typed : Bool) (k : Kind) → ScanValid (value_scan t typed (Some k))
@@ -214,6 +216,17 @@ element-valid (PendingName letters) c b n v =
     element-name-valid (may_be_name_of element.Style (letters ++ b ∷ [])) (is_name_of element.Style letters) c b letters n refl v
 element-valid PendingBang c b n v = element-released-valid (codes "<!") c b n v
 element-valid PendingBangDash c b n v = element-released-valid (codes "<!-") c b n v
+element-valid (PendingOpening letters) c b n v = element-released-valid (codes "<" ++ letters) c b n v
+
+-- in the element `script`
+behind-name-valid : (c : Class) → ScanValid (behind_end_name c)
+behind-name-valid White = (refl, refl)
+behind-name-valid Solidus = (refl, refl)
+behind-name-valid c = tt
+
+by-step-valid : (x : ScriptStep) (c : Class) (n : ScriptScan) → ScriptStepValid x n → ScanValid (scan_by_step n x c)
+by-step-valid (Reads bytes h) c n v = v
+by-step-valid (EndsContent letters) c n v = behind-name-valid c
 
 place-valid : (p : Place) (c : Class) (b : ℕ) → IsValid p → place_cause p c b ≡ None → ScanValid (scan_next (At p) c b)
 place-valid place.Text LessThan b v n = tt
@@ -224,7 +237,9 @@ place-valid (place.Comment dash) c b v n = comment-valid (comment_state dash) c
 place-valid (place.Rcdata e) c b v n = loose-valid c e (rcdata-rest e v)
 place-valid (place.Tag t) c b v n = tag-valid t c b v
 place-valid (place.Value x) c b v n = value-valid x NoTriple Closed c b v.1
-place-valid (place.Script j) c b v n = v
+place-valid (place.Script j) c b v n =
+    by-step-valid (script_scan_step (script_scan_start j) Nothing c b) c (script_scan_start j)
+    (element-byte-valid Nothing (script_scan_start j) c b (script-start-valid j v) (inl refl) n)
 place-valid (place.Style j) c b v n = element-loose-valid c b (style_scan_start j) (start-valid j v)
 place-valid (place.Block lt) c b v n = loose-valid c element.DataBlock tt
 
@@ -275,6 +290,7 @@ content-end-valid PendingBang LessThan b e v = v
 content-end-valid PendingBang _ b e v = v
 content-end-valid LessAtCut c b e v = loose-valid c e v
 content-end-valid PendingBangDash c b e v = loose-valid c e v
+content-end-valid (PendingOpening letters) c b e v = loose-valid c e v
 
 before-type-valid : (t : TagOf) (c : Class) (b : ℕ) → ScanValid (before_type_next c b t)
 before-type-valid t GreaterThan b = content-valid (type_tag t type_begun)
@@ -306,6 +322,7 @@ scan-valid (InAttributeName t typed name) c b v n = attribute-valid c b t typed 
 scan-valid (InCommentEnd s) c b v n = comment-valid s c
 scan-valid (InContentEnd e h) c b v n = content-end-valid h c b e v
 scan-valid (InStyleElement s h) c b v n = element-valid h c b s v.0
+scan-valid (InScriptElement k h) c b v n = by-step-valid (script_scan_step k h c b) c k (element-byte-valid h k c b v.0 v.1 n)
 scan-valid (BeforeType t) c b v n = before-type-valid t c b
 scan-valid (InType t q w r) c b v n = type-valid (ends_value q c) t q w r c b
 
@@ -332,5 +349,6 @@ end-valid (InAttributeName t typed name) v = (refl, refl)
 end-valid (InCommentEnd s) v = tt
 end-valid (InContentEnd e h) v = content-end-place-valid e h v
 end-valid (InStyleElement s h) v = style-fed-valid (pending_bytes h) s v.0
+end-valid (InScriptElement k h) v = scripts-stay-valid.place (feed_bytes script_feeding k (pending_bytes h)) (script-fed-valid (pending_bytes h) k v.0)
 end-valid (BeforeType t) v = tt
 end-valid (InType t q w r) v = tt

@@ -1,16 +1,16 @@
 -- Values in the beginning of a URL, be it the value or in a style: what keeps them there byte by byte, and the value of which it is not known what it
 -- has spelled.
-use Rattle.std.proofs.Common.{◌≡◌, ℕ, Bool, true, false, List, [], ◌∷◌, ◌++◌, Option, Some, None, refl, sym, ap, ◌∙◌, subst, ◌⊎◌, inl, inr}
+use Rattle.std.proofs.Common.{◌≡◌, ℕ, Bool, true, false, List, [], ◌∷◌, ◌++◌, refl, sym, ap, ◌∙◌, ◌⊎◌, inl, inr}
 use Rattle.css_lexer.specs.Classes.{style_class}
 use Rattle.css_lexer.specs.Escapes.{StyleEscape, NoEscape, AfterBackslash, HexDigits, AfterReturn, is_taken_in_style, behind_byte, behind_taken_in_string}
-use Rattle.css_lexer.specs.States.{Quote, DoubleQuote, SingleQuote, UrlWord, SpellsU, SpellsUr, SpellsUrl, SpellsOther, Outside, Between, AfterLessThan, Word, AfterSolidus, Comment, InString, BadUrl, BehindHole, SplitWord, SolidusAtCut, LessThanAtCut, StarAtCut, UrlForm, Fresh, Bare, Quoted, Ended, Style, Out, InUrl}
-use Rattle.css_lexer.specs.Steps.{feed_style, next_bare, next_bad, next_between, next_ended, next_out, next_quoted, next_solidus, next_split, next_style_comment, next_style_string, next_style_word, style_next}
+use Rattle.css_lexer.specs.States.{Quote, DoubleQuote, SingleQuote, UrlWord, SpellsU, SpellsUr, SpellsUrl, SpellsOther, Outside, Between, AfterLessThan, Word, AfterSolidus, Comment, InString, BadUrl, BehindHole, SplitWord, SolidusAtCut, LessThanAtCut, StarAtCut, Fresh, Bare, Quoted, Ended, Style, Out, InUrl}
+use Rattle.css_lexer.specs.Steps.{next_bare, next_bad, next_between, next_ended, next_out, next_quoted, next_solidus, next_split, next_style_comment, next_style_string, next_style_word, style_next}
 use Rattle.css_lexer.specs.Urls.{urls}
 use Rattle.css_lexer.specs.declared.class.StyleClass.{StyleClass}
 use Rattle.css_lexer.specs.declared.class.StyleClass.TheVariants as css
-use Rattle.place_core.specs.page.Tags.{Value, ValueOf, ValueState, OfKind, OfUrl, OfStyle, OfScript, languages, with_bytes, cut_value, feed_value}
+use Rattle.place_core.specs.page.Tags.{ValueOf, ValueState, OfKind, OfUrl, OfStyle, OfScript, languages, with_bytes, feed_value}
 use Rattle.place_core.specs.place.PathPairs.{is_in_open, unknown_part, unknown_style, unknown_url, url_in_style}
-use Rattle.html_step.proofs.Parentheses.{IsNoOpening, NoOpening, OpensAtEnds, OpensFirst, OpensLast, last-behind, last-ends}
+use Rattle.html_step.proofs.Parentheses.{NoOpening, OpensAtEnds, OpensFirst, OpensLast, last-ends}
 use Rattle.url_lexer.specs.Classes.{url_class_of}
 use Rattle.url_lexer.specs.Parts.{UrlPart, UrlStart, UrlOpen, UrlOpenhole, UrlPrequery, UrlQuery, UrlBad, next_part, part_behind_scheme}
 use Rattle.url_lexer.specs.Prefixes.{is_whole_word}

@@ -146,7 +146,7 @@ grows-from [] k since begun f g q d v h e =
     )
 grows-from (b ∷ bs) k since begun f g q d v h e =
     let n = step-ok k begun b bs g q e in
-    let m = scan-grows f g (class_of b) b v h n.0 in
+    let m = scan-grows f g (class_of b) b refl v h n.0 in
     let s = script-end-grows f g (class_of b) b v h n.0 n.2 in
     let r = grows-from bs (k + 1) (scan_read_behind k since f (class_of b) b) (scan_read_behind k begun g (class_of b) b) (scan_next f (class_of b) b)
     (scan_next g (class_of b) b) q (deep-behind k since b f d m.0 s) (scan-valid f (class_of b) b v m.0) m.1 n.1 in

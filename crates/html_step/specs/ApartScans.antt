@@ -4,6 +4,7 @@ use Rattle.place_core.specs.page.Classes.{class_of}
 use Rattle.place_core.specs.page.References.{Reference, Open, turn}
 use Rattle.place_core.specs.place.ApartPlaces.{beginning_at, opened_apart}
 use Rattle.place_core.specs.place.PathPairs.{is_broken_by}
+use Rattle.place_core.specs.declared.element.Element.TheVariants as element
 use Rattle.place_core.specs.declared.place.Place.{Place}
 use Rattle.place_core.specs.declared.prefix.Prefix.{Prefix}
 use Rattle.html_scan.specs.Scans.{Scan, At, InUrl, InStyle, InStyleElement, pending_left, scan_place, style_scan_before, url_before, with_style}
@@ -23,7 +24,7 @@ abbrev pub scan_beginning : Scan → List ℕ → Option Prefix
 scan_beginning (At p) bs = beginning_at p
 scan_beginning (InUrl v t r) bs = unless_in_reference (reads_on r bs) (beginning_at (url_before v r bs))
 scan_beginning (InStyle v s r) bs = unless_in_reference (reads_on r bs) (beginning_at (with_style v (style_scan_before s r bs)))
-scan_beginning (InStyleElement s h) bs = beginning_at (scan_place (InStyleElement s (pending_left h bs)))
+scan_beginning (InStyleElement s h) bs = beginning_at (scan_place (InStyleElement s (pending_left element.Style h bs)))
 scan_beginning f bs = None
 
 -- what it spells, by the place there, if there is one

@@ -69,6 +69,7 @@ abbrev pub hole_origin : Place → Member → Member
 hole_origin (place.Tag t) y = typed_origin y
 hole_origin (place.Value v) y = body_hole_origin v.body (quotes_origin v.quotes y)
 hole_origin (place.Style c) y = css_hole_origin c y
+hole_origin (place.Script j) y = js_hole_origin j y
 hole_origin p y = y
 
 -- Where several parts of a URL are there, the first two of them: the first one behind each, and so these two.

@@ -114,7 +114,7 @@ after_hole (place.Comment dash) = Ok (place.Comment dash, only san.Drop)
 after_hole (place.Rcdata e) = Ok (place.Rcdata e, only san.Html)
 after_hole (place.Tag t) = named_by_data (t.spots.name || t.spots.inside) t
 after_hole (place.Value v) = value_hole v.body v
-after_hole (place.Script js) = Err code.NotBuilt
+after_hole (place.Script js) = Ok (place.Script (script_at_hole js), only (script_sanitizer js))
 after_hole (place.Style css) = element_holed (style_hole_with_chain css (style_hole_answer css))
 after_hole (place.Block lt) = block_hole lt
 

@@ -8,13 +8,13 @@ use Rattle.css_step.specs.StyleScans.{StyleScan, ScanCode, ScanSplitEscape, Scan
 use Rattle.js_lexer.specs.Refusals.{Cause as ScriptCause}
 use Rattle.js_step.specs.ScriptEvidence.{script_shown_by, script_split_shows}
 use Rattle.js_step.specs.ScriptOrigins.{script_set_has}
-use Rattle.js_step.specs.ScriptScans.{ScriptScan, script_scan_cut_error, script_scan_error, script_scan_start}
+use Rattle.js_step.specs.ScriptScans.{ScriptScan, script_scan_cut_error, script_scan_end_error, script_scan_error, script_scan_start}
 use Rattle.place_core.specs.page.Classes.{Class, White, QuotationMark, Apostrophe, Solidus, LessThan, EqualsSign, GreaterThan, Letter, class_of}
-use Rattle.place_core.specs.page.Contents.{is_name_of, may_be_name_of, pending_bytes}
+use Rattle.place_core.specs.page.Contents.{ScriptStep, Reads, EndsContent, is_name_of, may_be_name_of, pending_bytes}
 use Rattle.place_core.specs.page.References.{Reference, Closed, undone_byte, as_it_stands}
-use Rattle.place_core.specs.page.States.{Pending, Nothing, PendingLess, LessAtCut, PendingName, PendingBang, PendingBangDash}
+use Rattle.place_core.specs.page.States.{Pending, Nothing, PendingLess, LessAtCut, PendingName, PendingBang, PendingBangDash, PendingOpening}
 use Rattle.place_core.specs.page.Tags.{feed_bytes}
-use Rattle.place_core.specs.place.Errors.{FedByte, PathCause, at_value_end, body_error, value_end_cause}
+use Rattle.place_core.specs.place.Errors.{FedByte, PathCause, at_value_end, body_error, step_asks, value_end_cause}
 use Rattle.place_core.specs.declared.body.Body.{Body}
 use Rattle.place_core.specs.declared.body.Body.TheVariants as body
 use Rattle.place_core.specs.declared.code.Code.{Code}
@@ -29,7 +29,7 @@ use Rattle.place_core.specs.declared.quotes.Quotes.{Quotes}
 use Rattle.place_core.specs.declared.quotes.Quotes.TheVariants as quotes
 use Rattle.place_core.specs.declared.spots.Spots.{Spots}
 use Rattle.place_core.specs.declared.value_place.ValuePlace.{ValuePlace}
-use Rattle.html_scan.specs.Scans.{Scan, At, InAttributeName, InUrl, InStyle, InScript, InStyleElement, all_scripts, body_cause, ends_quoted, quoted_error, quoted_places, scan_error, scan_next, script_fed_byte, script_feeding, style_feeding}
+use Rattle.html_scan.specs.Scans.{Scan, At, InAttributeName, InUrl, InStyle, InScript, InScriptElement, InStyleElement, script_scan_step, all_scripts, body_cause, ends_quoted, quoted_error, quoted_places, scan_error, scan_next, script_fed_byte, script_feeding, style_feeding}
 use Rattle.html_step.specs.Laws.{EvidenceData, one, two, apart}
 use Rattle.url_lexer.specs.Classes.{url_class_of}
 use Rattle.url_lexer.specs.declared.class.UrlClass.{UrlClass}
@@ -151,6 +151,15 @@ in_value_origin member.RegexpSlash = member.RegexpSlash
 in_value_origin member.JsStar = member.JsStar
 in_value_origin y = typed_origin y
 
+-- In a value that is no script nothing is said of a slash, which is so behind its tag alone: where that enters the content of a script.
+abbrev pub unsensed : Member → Member
+unsensed member.SenseRe = member.Whole
+unsensed y = y
+
+abbrev pub in_body_origin : Body → Member → Member
+in_body_origin (body.Js j) y = in_value_origin y
+in_body_origin x y = unsensed (in_value_origin y)
+
 abbrev pub fed_in : Quotes → Reference → Class → ℕ → List ℕ
 fed_in (quotes.Bare s) r White b = []
 fed_in (quotes.Bare s) r QuotationMark b = []
@@ -158,10 +167,10 @@ fed_in (quotes.Bare s) r Apostrophe b = []
 fed_in q r c b = undone_byte true r c b
 
 abbrev pub value_origin : ValuePlace → Reference → Class → ℕ → Member → Member
-value_origin v r c b y = body_origin v.body (fed_in v.quotes r c b) (in_value_origin y)
+value_origin v r c b y = body_origin v.body (fed_in v.quotes r c b) (in_body_origin v.body y)
 
 abbrev pub style_value_origin : ValuePlace → StyleScan → Reference → Class → ℕ → Member → Member
-style_value_origin v s r c b y = style_fed_origin (fed_in v.quotes r c b) s (in_value_origin y)
+style_value_origin v s r c b y = style_fed_origin (fed_in v.quotes r c b) s (unsensed (in_value_origin y))
 
 -- In the element `style`: the bytes that the style is fed at a byte, those first that were pending back and come to nothing. A `<` is pending itself.
 abbrev pub loose_fed : Class → ℕ → List ℕ
@@ -187,6 +196,12 @@ element_fed (PendingName letters) c b =
     end_name_fed (may_be_name_of element.Style (letters ++ b ∷ [])) (is_name_of element.Style letters) c b letters
 element_fed PendingBang c b = codes "<!" ++ loose_fed c b
 element_fed PendingBangDash c b = codes "<!-" ++ loose_fed c b
+element_fed (PendingOpening letters) c b = (codes "<" ++ letters) ++ loose_fed c b
+
+-- in the element `script`, by what the byte does there: what the script is asked of
+abbrev pub step_asked : ScriptStep → List ℕ
+step_asked (Reads bytes h) = step_asks bytes h
+step_asked (EndsContent letters) = []
 
 -- Behind these bytes nothing has changed, but that the name of its end tag may have ended, behind which all is so on each path.
 abbrev pub end_name_origin : (whole : Bool) → Class → Member → Member
@@ -199,25 +214,32 @@ abbrev pub element_origin : Pending → Class → Member → Member
 element_origin (PendingName letters) c y = end_name_origin (is_name_of element.Style letters) c y
 element_origin h c y = y
 
+abbrev pub step_origin : ScriptStep → Member → Member
+step_origin (Reads bytes h) y = y
+step_origin (EndsContent letters) y = member.Whole
+
 -- The member that a member after a byte comes from: behind the bytes that a value or a style is fed, and before them.
 abbrev pub place_origin : Place → Class → Member → Member
 place_origin (place.Tag t) c y = tag_origin c t.spots y
-place_origin (place.Value v) c y = in_value_origin y
+place_origin (place.Value v) c y = in_body_origin v.body y
 place_origin (place.Style p) c y = y
+place_origin (place.Script j) c y = y
 place_origin _ c y = member.Whole
 
-abbrev pub behind_origin : Scan → Class → Member → Member
-behind_origin (At p) c y = place_origin p c y
-behind_origin (InAttributeName t typed name) c y = name_origin typed
-behind_origin (InUrl v t r) c y = in_value_origin y
-behind_origin (InStyle v s r) c y = in_value_origin y
-behind_origin (InScript v n r) c y = in_value_origin y
-behind_origin (InStyleElement s h) c y = element_origin h c y
-behind_origin f c y = member.Whole
+abbrev pub behind_origin : Scan → Class → ℕ → Member → Member
+behind_origin (At p) c b y = place_origin p c y
+behind_origin (InAttributeName t typed name) c b y = name_origin typed
+behind_origin (InUrl v t r) c b y = in_body_origin v.body y
+behind_origin (InStyle v s r) c b y = unsensed (in_value_origin y)
+behind_origin (InScript v n r) c b y = in_value_origin y
+behind_origin (InStyleElement s h) c b y = element_origin h c y
+behind_origin (InScriptElement n h) c b y = step_origin (script_scan_step n h c b) y
+behind_origin f c b y = member.Whole
 
 abbrev pub place_fed_origin : Place → Class → ℕ → Member → Member
 place_fed_origin (place.Value v) c b y = body_origin v.body (fed_in v.quotes Closed c b) y
 place_fed_origin (place.Style p) c b y = style_fed_origin (loose_fed c b) (style_scan_start p) y
+place_fed_origin (place.Script j) c b y = script_origin (script_scan_start j) y
 place_fed_origin p c b y = y
 
 abbrev pub scan_fed_origin : Scan → Class → ℕ → Member → Member
@@ -226,10 +248,11 @@ scan_fed_origin (InUrl v t r) c b y = body_origin v.body (fed_in v.quotes r c b)
 scan_fed_origin (InStyle v s r) c b y = style_fed_origin (fed_in v.quotes r c b) s y
 scan_fed_origin (InScript v n r) c b y = script_origin n y
 scan_fed_origin (InStyleElement s h) c b y = style_fed_origin (element_fed h c b) s y
+scan_fed_origin (InScriptElement n h) c b y = script_origin n y
 scan_fed_origin f c b y = y
 
 abbrev pub byte_origin : Scan → Class → ℕ → Member → Member
-byte_origin f c b y = scan_fed_origin f c b (behind_origin f c y)
+byte_origin f c b y = scan_fed_origin f c b (behind_origin f c b y)
 
 -- The one before the end of a text. In a style what the scan state has as a set stays as it is, and what the place there has else is so on all paths.
 abbrev pub style_end_origin : StyleScan → Member → Member
@@ -246,6 +269,7 @@ end_origin (InUrl v t r) y = body_origin v.body (as_it_stands r) y
 end_origin (InStyle v s r) y = style_ends_origin s (as_it_stands r) y
 end_origin (InScript v n r) y = script_origin n y
 end_origin (InStyleElement s h) y = style_ends_origin s (pending_bytes h) y
+end_origin (InScriptElement n h) y = script_origin n y
 end_origin f y = member.Whole
 
 -- the one before a text
@@ -358,20 +382,28 @@ abbrev pub script_evidence : Option Member → EvidenceData
 script_evidence (Some y) = one y
 script_evidence None = two member.SenseDiv member.SenseRe
 
-abbrev pub script_byte_shown : ScriptScan → ℕ → Option EvidenceData
-script_byte_shown n b = option_map (λ e. script_evidence (script_shown_by n (script_split_shows n b) e.refusal)) (script_scan_error false n b)
+abbrev pub script_byte_shown : (element : Bool) → ScriptScan → ℕ → Option EvidenceData
+script_byte_shown element n b = option_map (λ e. script_evidence (script_shown_by n (script_split_shows n b) e.refusal)) (script_scan_error element n b)
 
-abbrev pub script_told_shown : (ScriptScan → Option ScriptCause) → List ℕ → ScriptScan → Option EvidenceData
-script_told_shown ends [] n = option_map (λ e. script_evidence (script_shown_by n member.Whole e.refusal)) (ends n)
-script_told_shown ends (b ∷ bs) n = first_shown (script_byte_shown n b) (script_told_shown ends bs (script_fed_byte n b))
+abbrev pub script_told_shown : (element : Bool) → (ScriptScan → Option ScriptCause) → List ℕ → ScriptScan → Option EvidenceData
+script_told_shown element ends [] n = option_map (λ e. script_evidence (script_shown_by n member.Whole e.refusal)) (ends n)
+script_told_shown element ends (b ∷ bs) n = first_shown (script_byte_shown element n b) (script_told_shown element ends bs (script_fed_byte n b))
 
 abbrev pub script_back : ScriptScan → EvidenceData → EvidenceData
 script_back n (one y) = one (script_origin n y)
 script_back n (two x y) = two (script_origin n x) (script_origin n y)
 script_back n apart = apart
 
-abbrev pub script_shows : (ScriptScan → Option ScriptCause) → List ℕ → ScriptScan → Option EvidenceData
-script_shows ends bytes n = option_map (script_back n) (script_told_shown ends bytes n)
+abbrev pub script_shows : (element : Bool) → (ScriptScan → Option ScriptCause) → List ℕ → ScriptScan → Option EvidenceData
+script_shows element ends bytes n = option_map (script_back n) (script_told_shown element ends bytes n)
+
+-- in the element, of the bytes that it is asked at a byte, and of the script that the end tag ends
+abbrev pub ends_by_step : ScriptStep → ScriptScan → Option ScriptCause
+ends_by_step (Reads bytes h) n = None
+ends_by_step (EndsContent letters) n = script_scan_end_error n
+
+abbrev pub script_step_shown : ScriptStep → ScriptScan → Option EvidenceData
+script_step_shown step n = script_shows true (ends_by_step step) (step_asked step) n
 
 -- at a byte of the text, which may end the value
 abbrev pub bytes_of_places : List FedByte → List ℕ
@@ -382,7 +414,7 @@ abbrev pub script_value_ends : (ends : Bool) → ScriptScan → Option ScriptCau
 script_value_ends ends n = at_value_end (value_end_cause all_scripts ends n)
 
 abbrev pub script_step_shows : Quotes → ScriptScan → Reference → Class → ℕ → Option EvidenceData
-script_step_shows q n r c b = script_shows (script_value_ends (ends_quoted q c)) (bytes_of_places (quoted_places q 0 r c b)) n
+script_step_shows q n r c b = script_shows false (script_value_ends (ends_quoted q c)) (bytes_of_places (quoted_places q 0 r c b)) n
 
 abbrev pub begun_script_shows : Body → Quotes → Class → ℕ → Option EvidenceData
 begun_script_shows (body.Js j) q c b = script_step_shows q (script_scan_start j) Closed c b
@@ -390,7 +422,9 @@ begun_script_shows x q c b = None
 
 abbrev pub script_shown : Scan → Class → ℕ → Option EvidenceData
 script_shown (At (place.Value v)) c b = begun_script_shows v.body v.quotes c b
+script_shown (At (place.Script j)) c b = script_step_shown (script_scan_step (script_scan_start j) Nothing c b) (script_scan_start j)
 script_shown (InScript v n r) c b = script_step_shows v.quotes n r c b
+script_shown (InScriptElement n h) c b = script_step_shown (script_scan_step n h c b) n
 script_shown f c b = None
 
 -- What the language of a value refuses of the bytes that it is fed.
@@ -467,7 +501,8 @@ or_evidence None later = later
 
 -- at the end of a text
 abbrev pub script_end_shown : Scan → Option EvidenceData
-script_end_shown (InScript v n r) = script_shows script_scan_cut_error (as_it_stands r) n
+script_end_shown (InScript v n r) = script_shows false script_scan_cut_error (as_it_stands r) n
+script_end_shown (InScriptElement n h) = script_shows true script_scan_cut_error (pending_bytes h) n
 script_end_shown f = None
 
 abbrev pub shows : List ℕ → Scan → EvidenceData

@@ -34,7 +34,9 @@ pub fn behind_byte(origins: Origins, text: &[u8], index: usize, class: Class, sc
             style,
             reference,
         } => { in_style(origins, text, index, class, place.quotes, style, reference) }
-        Scan::InScript { script, .. } => origins.then_script(script),
+        Scan::InScript { script, .. } | Scan::InScriptElement { script, .. } => {
+            origins.then_script(script)
+        }
         Scan::InStyleElement(style) => {
             element_origins::in_element(origins, class, text[index], style)
         }
@@ -58,6 +60,7 @@ fn at_place(origins: Origins, text: &[u8], index: usize, class: Class, place: Pl
         Place::Style(css) => {
             element_origins::in_element(origins, class, text[index], css_step::start(css))
         }
+        Place::Script(js) => origins.then_script(js_step::start(js)),
         _ => origins,
     }
 }

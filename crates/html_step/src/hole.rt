@@ -3,6 +3,7 @@ ghost use Rattle.css_step.specs.StyleChains.{style_hole_with_chain};
 ghost use Rattle.css_step.specs.StyleScanViews.{style_hole_answer};
 ghost use Rattle.url_step.specs.PartSets.{hole_answer};
 ghost use Rattle.html_step.specs.Holes as spec;
+ghost use Rattle.place_core.specs.declared.place.Place.TheVariants as places;
 
 use html_scan::{BEGUN, INSIDE};
 use place_core::{
@@ -20,7 +21,6 @@ use url_step::at_hole;
 /// - `AmbigContext`: in a URL where some paths are in one part of it and some in another, as before a `?` and behind one: no one
 ///   chain of sanitizers fits all.
 /// - `BadString`: in a style, behind the URL of a `url(`.
-/// - `NotBuilt`: in the element `script`.
 ///
 /// Does not allocate.
 pub fn after_hole(place: Place) -> Result<(Place, Chain), Code>
@@ -34,7 +34,7 @@ pub fn after_hole(place: Place) -> Result<(Place, Chain), Code>
         Place::Value(value) => in_value(value),
         Place::Block(less) => in_block(less),
         Place::Style(css) => in_element(css),
-        Place::Script(_) => Err(Code::NotBuilt),
+        Place::Script(js) => Ok(in_script_element(js)),
     }
 }
 
@@ -44,6 +44,16 @@ fn in_element(css: Css) -> Result<(Place, Chain), Code>
 {
     let (after, chain) = css_step::after_hole(css)?;
     Ok((Place::Style(after), chain))
+}
+
+// In the element `script`, without a sanitizer of quotes.
+fn in_script_element(js: Js) -> (Place, Chain)
+    ensures { Ok result ≡ spec.after_hole (places.Script js) }
+{
+    (
+        Place::Script(js_step::at_hole(js)),
+        only(js_step::sanitizer(js)),
+    )
 }
 
 // In a data block: where a text has ended in `<`, the value would go on with it.

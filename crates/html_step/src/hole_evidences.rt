@@ -40,6 +40,7 @@ fn origin(place: Place, member: Member) -> Member
         Place::Tag(_) => typed_origin(member),
         Place::Value(value) => body_origin(value.body, quotes_origin(value.quotes, member)),
         Place::Style(css) => in_style_origin(css, member),
+        Place::Script(js) => in_script_origin(js, member),
         _ => member,
     }
 }

@@ -17,6 +17,7 @@ mod origins;
 mod predefined;
 mod printed;
 mod refusal;
+mod script_element_showing;
 mod script_origins;
 mod script_showing;
 mod sets;

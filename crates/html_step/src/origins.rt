@@ -11,7 +11,7 @@ ghost use Rattle.url_lexer.specs.Classes as urls;
 use crate::element_origins;
 use crate::evidence::Evidence;
 use crate::fed_origins::{behind_byte, behind_end};
-use crate::script_origins::script_origin;
+use crate::script_origins::{script_origin, step_origin};
 use crate::style_fed_origins::at_style_end;
 use crate::style_origins::{style_end_origin, style_is_apart, style_origin};
 use css_step::StyleScan;
@@ -142,7 +142,9 @@ impl Origins {
                 let end = style_end_origin(style_at_cut(text, style, reference), member);
                 at_style_end(self, text, style, reference).of(end)
             }
-            Scan::InScript { script, .. } => self.of(script_origin(script, member)),
+            Scan::InScript { script, .. } | Scan::InScriptElement { script, .. } => {
+                self.of(script_origin(script, member))
+            }
             Scan::InStyleElement(style) => self.of(style_end_origin(style, member)),
             Scan::AfterStyleLess(style) => {
                 let end = style_end_origin(behind_less(style), member);
@@ -276,23 +278,26 @@ fn number(member: Member) -> usize
     }
 }
 
-// The member that a member after a byte comes from, behind the bytes that a URL or a style is fed.
+// The member that a member after a byte comes from, behind the bytes that a URL, a style or a script is fed.
 fn behind_origin(text: &[u8], index: usize, class: Class, scan: Scan, member: Member) -> Member
     requires inside { index < length text.now }
     requires pending { pending_from scan ≤ index }
-    ensures { result
-        ≡ spec.behind_origin (scan_at text.now index scan) (class_at class) member }
+    ensures { result ≡ spec.behind_origin (scan_at text.now index scan) (class_at class)
+        (get_or text.now index 0) member }
 {
     match scan {
         Scan::At(place) => place_origin(place, class, member),
         Scan::InAttributeName { typed, .. } => name_origin(typed),
-        Scan::InUrl { .. } | Scan::InStyle { .. } | Scan::InScript { .. } => in_value_origin(
-            member,
-        ),
+        Scan::InUrl { place, .. } => in_body_origin(place.body, member),
+        Scan::InStyle { .. } => unsensed(in_value_origin(member)),
+        Scan::InScript { .. } => in_value_origin(member),
         Scan::InStyleElement(_) | Scan::AfterStyleLess(_) => member,
         Scan::InStyleName { from, .. } => {
             let whole = is_name_of(Element::Style, pending(text, from + 2, index));
             end_name_origin(whole, class, member)
+        }
+        Scan::InScriptElement { script, pending } => {
+            step_origin(text, index, class, script, pending, member)
         }
         _ => Member::Whole,
     }
@@ -313,9 +318,29 @@ fn place_origin(place: Place, class: Class, member: Member) -> Member
 {
     match place {
         Place::Tag(tag) => tag_origin(class, tag.spots, member),
-        Place::Value(_) => in_value_origin(member),
-        Place::Style(_) => member,
+        Place::Value(value) => in_body_origin(value.body, member),
+        Place::Style(_) | Place::Script(_) => member,
         _ => Member::Whole,
+    }
+}
+
+// In a value with this body: the same, where the byte may end the value and its tag.
+fn in_body_origin(body: Body, member: Member) -> Member
+    ensures { result ≡ spec.in_body_origin body member }
+{
+    match body {
+        Body::Js(_) => in_value_origin(member),
+        _ => unsensed(in_value_origin(member)),
+    }
+}
+
+// In a value that is no script nothing is said of a slash.
+fn unsensed(member: Member) -> Member
+    ensures { result ≡ spec.unsensed member }
+{
+    match member {
+        Member::SenseRe => Member::Whole,
+        _ => member,
     }
 }
 

@@ -1,12 +1,16 @@
 // Which member before the bytes that a script is fed a member behind them comes from.
-ghost use Rattle.std.specs.Prelude.{◌≡◌};
+ghost use Rattle.std.specs.Prelude.{◌≡◌, ◌<◌, ◌≤◌, get_or, length};
 ghost use Rattle.js_step.specs.ScriptOrigins.{script_but_slash, script_senses_at, script_set_has, script_tails_at};
 ghost use Rattle.js_step.specs.ScriptScanViews.{script_lexeme_at, script_scan_at};
 ghost use Rattle.place_core.specs.place.LanguagePlaces.{js_star_has, js_tails_have, regexp_has};
 ghost use Rattle.place_core.specs.place.LanguagePlaces as languages;
+ghost use Rattle.html_scan.specs.ClassViews.{class_at};
+ghost use Rattle.html_scan.specs.ScanViews.{pending_length, script_pending_at};
+ghost use Rattle.html_scan.specs.Scans.{script_scan_step};
 ghost use Rattle.html_step.specs.Origins as spec;
 
 use crate::origins::typed_origin;
+use html_scan::{Class, ScriptPending, ScriptStep, may_end, script_step};
 use js_step::{ScriptAt, ScriptScan};
 use place_core::{JsTails, Member, Senses};
 
@@ -18,6 +22,27 @@ pub fn script_origin(script: ScriptScan, member: Member) -> Member
         return member;
     }
     typed_origin(member)
+}
+
+/// In the element: before a byte, behind what the script is fed. Behind the end tag all is so on each path.
+pub fn step_origin(
+    text: &[u8],
+    index: usize,
+    class: Class,
+    script: ScriptScan,
+    back: ScriptPending,
+    member: Member,
+) -> Member
+    requires inside { index < length text.now }
+    requires pending { pending_length back ≤ index }
+    ensures { result ≡ spec.step_origin (script_scan_step (script_scan_at script)
+        (script_pending_at text.now index back) (class_at class) (get_or text.now index 0))
+        member }
+{
+    match script_step(text, index, class, may_end(script), back) {
+        ScriptStep::Ends { .. } => Member::Whole,
+        _ => member,
+    }
 }
 
 // Whether a scan state has a member in what it keeps as sets.

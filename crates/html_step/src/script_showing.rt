@@ -1,5 +1,5 @@
 // What shows that a text is refused in a script: by the bytes that it is fed, the first that is refused, and then by its end.
-ghost use Rattle.std.specs.Prelude.{◌≡◌, ◌+◌, ◌<◌, ◌≤◌, ◌∷◌, ℕ, List, encode_utf8, get_or, length, option_map, true};
+ghost use Rattle.std.specs.Prelude.{◌≡◌, ◌+◌, ◌<◌, ◌≤◌, ◌∷◌, ℕ, List, encode_utf8, false, get_or, length, option_map, true};
 ghost use Rattle.js_step.specs.ScriptEvidence.{script_code_shows, script_evidence_at};
 ghost use Rattle.js_step.specs.ScriptScans.{script_scan_cut_error};
 ghost use Rattle.js_step.specs.ScriptScanViews.{most_bytes, script_scan_at};
@@ -16,12 +16,13 @@ ghost use Rattle.html_step.specs.Origins as spec;
 ghost use Rattle.html_step.specs.ScriptShowing.{bytes_at, script_end_shows, script_fed_shown};
 
 use crate::evidence::Evidence;
+use crate::script_element_showing;
 use crate::script_origins::script_origin;
 use crate::style_showing::first_shown;
 use html_scan::{
-    Class, OpenReference, Outcome, ReferenceForm, Scan, after_script_byte, begun_script,
-    broken_char, broken_script, ends_between, is_equals, is_told_at_node_end, meaning, pending,
-    script_at_cut, stops, turn,
+    Class, OpenReference, Outcome, ReferenceForm, Scan, ScriptPending, after_script_byte,
+    begun_script, broken_char, broken_script, ends_between, is_equals, is_told_at_node_end,
+    meaning, pending, script_at_cut, stops, turn,
 };
 use js_step::{ScriptScan, ScriptShown};
 use place_core::{Body, Code, Member, Place, Quotes};
@@ -39,6 +40,9 @@ pub fn script_shown(text: &[u8], index: usize, class: Class, scan: Scan) -> Opti
             script,
             reference,
         } => at_byte(text, index, class, place.quotes, script, reference),
+        Scan::InScriptElement { script, pending } => script_element_showing::at_byte(
+            text, index, class, script, pending,
+        ),
         Scan::At(place) => at_place(text, index, class, place),
         _ => None,
     }
@@ -55,6 +59,10 @@ fn at_place(text: &[u8], index: usize, class: Class, place: Place) -> Option<Evi
             Body::Js(js) => at_byte(text, index, class, value.quotes, begun_script(js), None),
             _ => None,
         },
+        Place::Script(js) => {
+            let script = begun_script(js);
+            script_element_showing::at_byte(text, index, class, script, ScriptPending::Nothing)
+        }
         _ => None,
     }
 }
@@ -71,6 +79,9 @@ pub fn shown_at_cut(text: &[u8], scan: Scan) -> Option<Evidence>
             reference,
             ..
         } => back(script, told_at_cut(text, script, reference)),
+        Scan::InScriptElement { script, pending } => script_element_showing::at_cut(
+            text, script, pending,
+        ),
         _ => None,
     }
 }
@@ -91,8 +102,8 @@ fn at_byte(
     back(script, told(text, index, class, quotes, script, reference))
 }
 
-// The same before all that the script is fed.
-fn back(script: ScriptScan, shown: Option<Evidence>) -> Option<Evidence>
+/// The same before all that the script is fed.
+pub fn back(script: ScriptScan, shown: Option<Evidence>) -> Option<Evidence>
     ensures { option_map evidence_at result
         ≡ option_map (script_back (script_scan_at script)) (option_map evidence_at shown) }
 {
@@ -116,7 +127,7 @@ fn told(
     requires inside { index < length text.now }
     requires pending { script_from (script_count script) reference ≤ index }
     ensures { option_map evidence_at result
-        ≡ script_told_shown (script_value_ends (ends_quoted quotes (class_at class)))
+        ≡ script_told_shown false (script_value_ends (ends_quoted quotes (class_at class)))
         (bytes_of_places (quoted_places quotes 0 (open_reference_at text.now index reference)
         (class_at class) (get_or text.now index 0))) (script_scan_at script) }
 {
@@ -147,7 +158,7 @@ fn told_at_cut(
     reference: Option<OpenReference>,
 ) -> Option<Evidence>
     requires pending { script_from (script_count script) reference ≤ length text.now }
-    ensures { option_map evidence_at result ≡ script_told_shown script_scan_cut_error
+    ensures { option_map evidence_at result ≡ script_told_shown false script_scan_cut_error
         (as_it_stands (open_reference_at text.now (length text.now) reference))
         (script_scan_at script) }
 {
@@ -159,7 +170,7 @@ fn told_at_cut(
 // A reference with which a text ends, each byte of which is text as it stands.
 fn of_open(text: &[u8], script: ScriptScan, reference: Option<OpenReference>) -> Option<Evidence>
     requires pending { script_from (script_count script) reference ≤ length text.now }
-    ensures { option_map evidence_at result ≡ script_fed_shown
+    ensures { option_map evidence_at result ≡ script_fed_shown false
         (as_it_stands (open_reference_at text.now (length text.now) reference))
         (script_scan_at script) }
 {
@@ -204,8 +215,8 @@ fn of_end(script: ScriptScan, ends: bool) -> Option<Evidence>
     }
 }
 
-// The end of the node.
-fn of_cut(script: ScriptScan) -> Option<Evidence>
+/// The end of the node.
+pub fn of_cut(script: ScriptScan) -> Option<Evidence>
     ensures { option_map evidence_at result ≡ script_end_shows
         (script_scan_cut_error (script_scan_at script)) (script_scan_at script) }
 {
@@ -215,7 +226,8 @@ fn of_cut(script: ScriptScan) -> Option<Evidence>
     }
 }
 
-fn by_end(script: ScriptScan, code: Code) -> Evidence
+/// An end, which is refused by this code.
+pub fn by_end(script: ScriptScan, code: Code) -> Evidence
     ensures { evidence_at result ≡ script_evidence
         (script_code_shows (script_scan_at script) member.Whole code) }
 {
@@ -242,7 +254,7 @@ fn of_fed(
 ) -> Option<Evidence>
     requires inside { index < length text.now }
     requires pending { script_from (script_count script) reference ≤ index }
-    ensures { option_map evidence_at result ≡ script_fed_shown
+    ensures { option_map evidence_at result ≡ script_fed_shown false
         (bytes_at stops (open_reference_at text.now index reference) (class_at class)
         (get_or text.now index 0)) (script_scan_at script) }
 {
@@ -268,7 +280,7 @@ fn in_reference(
     byte: u8,
 ) -> Option<Evidence>
     requires room { script_count script + length read.now + 5 ≤ most_bytes }
-    ensures { option_map evidence_at result ≡ script_fed_shown
+    ensures { option_map evidence_at result ≡ script_fed_shown false
         (undone_byte true (Open (open_form_at form) read.now) (class_at class) byte)
         (script_scan_at script) }
 {
@@ -288,7 +300,7 @@ fn in_reference(
 // A reference that no semicolon ends.
 fn of_broken(script: ScriptScan, equals: bool, form: ReferenceForm, read: &[u8]) -> Option<Evidence>
     requires room { script_count script + length read.now + 4 ≤ most_bytes }
-    ensures { option_map evidence_at result ≡ script_fed_shown
+    ensures { option_map evidence_at result ≡ script_fed_shown false
         (flushed true equals (open_form_at form) read.now) (script_scan_at script) }
 {
     match broken_char(equals, form, read) {
@@ -301,31 +313,32 @@ fn of_broken(script: ScriptScan, equals: bool, form: ReferenceForm, read: &[u8])
 fn of_written(script: ScriptScan, read: &[u8]) -> Option<Evidence>
     requires room { script_count script + length read.now + 1 ≤ most_bytes }
     ensures { option_map evidence_at result
-        ≡ script_fed_shown (38 ∷ read.now) (script_scan_at script) }
+        ≡ script_fed_shown false (38 ∷ read.now) (script_scan_at script) }
 {
-    match of_byte(script, b'&') {
+    match of_byte(false, script, b'&') {
         Some(shown) => Some(shown),
-        None => of_bytes(after_script_byte(script, b'&'), read),
+        None => of_bytes(false, after_script_byte(script, b'&'), read),
     }
 }
 
 fn of_char(script: ScriptScan, found: char) -> Option<Evidence>
     requires room { script_count script + 4 ≤ most_bytes }
     ensures { option_map evidence_at result
-        ≡ script_fed_shown (encode_utf8 found) (script_scan_at script) }
+        ≡ script_fed_shown false (encode_utf8 found) (script_scan_at script) }
 {
     let mut buffer = [0; 4];
-    of_bytes(script, found.encode_utf8(&mut buffer).as_bytes())
+    of_bytes(false, script, found.encode_utf8(&mut buffer).as_bytes())
 }
 
-fn of_bytes(script: ScriptScan, bytes: &[u8]) -> Option<Evidence>
+/// These bytes; `element` says whether the script is an element's.
+pub fn of_bytes(element: bool, script: ScriptScan, bytes: &[u8]) -> Option<Evidence>
     requires room { script_count script + length bytes.now ≤ most_bytes }
     ensures { option_map evidence_at result
-        ≡ script_fed_shown bytes.now (script_scan_at script) }
+        ≡ script_fed_shown element bytes.now (script_scan_at script) }
 {
     let mut fed = script;
     for byte in bytes {
-        match of_byte(fed, *byte) {
+        match of_byte(element, fed, *byte) {
             Some(shown) => return Some(shown),
             None => fed = after_script_byte(fed, *byte),
         }
@@ -336,18 +349,20 @@ fn of_bytes(script: ScriptScan, bytes: &[u8]) -> Option<Evidence>
 // A byte at which no reference is open; an ampersand opens one.
 fn of_plain_byte(script: ScriptScan, class: Class, byte: u8) -> Option<Evidence>
     ensures { option_map evidence_at result
-        ≡ script_fed_shown (plain_bytes (class_at class) byte) (script_scan_at script) }
+        ≡ script_fed_shown false (plain_bytes (class_at class) byte) (script_scan_at script) }
 {
     match class {
         Class::Ampersand => None,
-        _ => of_byte(script, byte),
+        _ => of_byte(false, script, byte),
     }
 }
 
-fn of_byte(script: ScriptScan, byte: u8) -> Option<Evidence>
-    ensures { option_map evidence_at result ≡ script_byte_shown (script_scan_at script) byte }
+/// One byte of a script.
+pub fn of_byte(element: bool, script: ScriptScan, byte: u8) -> Option<Evidence>
+    ensures { option_map evidence_at result
+        ≡ script_byte_shown element (script_scan_at script) byte }
 {
-    match js_step::shown_at_byte(false, script, byte) {
+    match js_step::shown_at_byte(element, script, byte) {
         Some(shown) => Some(of_shown(shown)),
         None => None,
     }

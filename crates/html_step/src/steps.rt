@@ -29,10 +29,9 @@ use place_core::{Code, Place, StepErr};
 /// - `AmbigContext`: a blank that on some paths ends a value without quotes, and on others stands before one; in the beginning of
 ///   a URL a `:`, also as a reference, behind a value of data, or where paths have spelled different things.
 /// - `PartialEscape`: a text that ends in a percent triple of a URL.
-/// - In a value that is a script, read as one: `SplitToken`, `SlashAmbig`, `BadString`, `HtmlInScript` and `PartialEscape` as `js_lexer` says
+/// - In a script, of a value or of the element: `SplitToken`, `SlashAmbig`, `BadString`, `HtmlInScript` and `PartialEscape` as `js_lexer` says
 ///   of scripts; `PartialCharset`: a text that ends in a `[ ]` of a regular expression; `JSTemplate`: one that ends in a template literal, or
-///   where literals of a value nest too deep.
-/// - `NotBuilt`: the `>` before the content of a script, and each byte there.
+///   where literals nest too deep.
 ///
 /// Takes no memory, and time in proportion to the length of the text.
 pub fn after_text(place: Place, text: &str) -> Result<Place, StepErr<Place>>

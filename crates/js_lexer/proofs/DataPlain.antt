@@ -9,7 +9,7 @@ use Rattle.js_lexer.specs.Feeding.{ScriptReading, script_reading, read_on}
 use Rattle.js_lexer.specs.Holes.{paged, as_page, script_settled, LeadsPlainAt, IsBetweenEscapes, ScriptLeadsPlain}
 use Rattle.js_lexer.specs.Plain.{punctuator_event, literal_events, IsPlainInScript}
 use Rattle.js_lexer.specs.Sanitizers.{escaped, text_rows, json, json_items, json_entries, json_text, begins_joined, js_value}
-use Rattle.js_lexer.specs.States.{At, Code, Word, Number, Pluses, Minuses, Slash, LineComment, BlockComment, InString, InRegexp, InTemplate, TooDeep, Trail}
+use Rattle.js_lexer.specs.States.{At, Code, Word, Number, Pluses, Minuses, Slash, LineComment, BlockComment, InString, InRegexp, InTemplate, TooDeep, Trail, PartLines}
 use Rattle.js_lexer.specs.WhiteSpace.{released, held_after}
 use Rattle.js_lexer.specs.declared.sense.Sense.{Sense}
 use Rattle.js_lexer.specs.declared.sense.Sense.TheVariants as sense
@@ -91,9 +91,9 @@ whole a start (dict pairs) = record {
       (dict-reads a start pairs) (dict-reads (Code start.settles) (code-opens start.settles) pairs);
 }
 
-read-leads : (a : At) (f : Bool) (m : List ℕ) (k l : ℕ) → ((after : At) → as_page after ≡ Code sense.Div → LeadsPlainAt a after)
-    → (e : Sense) → paged e ≡ sense.Div → (u : List ScriptEvent) (r : ScriptReading) → IsRead (Code e) u r → ScriptLeadsPlain (open_at a (between_escapes f m k l)) r.state
-read-leads a f m k l leads e divides u r is = record {
+read-leads : (a : At) (f : Bool) (m : List ℕ) (k l : ℕ) (z : PartLines) → ((after : At) → as_page after ≡ Code sense.Div → LeadsPlainAt a after)
+    → (e : Sense) → paged e ≡ sense.Div → (u : List ScriptEvent) (r : ScriptReading) → IsRead (Code e) u r → ScriptLeadsPlain (open_at a (between_escapes f m k l z)) r.state
+read-leads a f m k l z leads e divides u r is = record {
   at = leads r.state.at (ap (λ (q : ScriptReading). as_page q.state.at) is.is ∙ ap (λ (s : Sense). Code s) divides);
   outside = refl;
   within = ap (λ (q : ScriptReading). q.state.literals) is.is;
@@ -104,13 +104,13 @@ read-leads a f m k l leads e divides u r is = record {
 }
 
 -- the reading of a datum there, and what it tells
-read-whole : (a : At) (f : Bool) (m : List ℕ) (k l : ℕ) → ((after : At) → as_page after ≡ Code sense.Div → LeadsPlainAt a after) → IsOpen a → (d : Data)
-    → ScriptLeadsPlain (open_at a (between_escapes f m k l)) (read_on (js_value d) (script_reading (open_at a (between_escapes f m k l)) [])).state
-    × ((read_on (js_value d) (script_reading (open_at a (between_escapes f m k l)) [])).told ≡ literal_events d [])
-read-whole a f m k l leads start d =
+read-whole : (a : At) (f : Bool) (m : List ℕ) (k l : ℕ) (z : PartLines) → ((after : At) → as_page after ≡ Code sense.Div → LeadsPlainAt a after) → IsOpen a → (d : Data)
+    → ScriptLeadsPlain (open_at a (between_escapes f m k l z)) (read_on (js_value d) (script_reading (open_at a (between_escapes f m k l z)) [])).state
+    × ((read_on (js_value d) (script_reading (open_at a (between_escapes f m k l z)) [])).told ≡ literal_events d [])
+read-whole a f m k l z leads start d =
     let w = whole a start d in
-    let is = w.reads f m k l in (
-      read-leads a f m k l leads w.settles w.divides (literal_events d []) (read_on (js_value d) (script_reading (open_at a (between_escapes f m k l)) [])) is,
+    let is = w.reads f m k l z in (
+      read-leads a f m k l z leads w.settles w.divides (literal_events d []) (read_on (js_value d) (script_reading (open_at a (between_escapes f m k l z)) [])) is,
       ap (λ (q : ScriptReading). q.told) is.is,
     )
 
@@ -165,59 +165,59 @@ value-apart (dict pairs) s t h =
 abbrev IsPlainAt : At → Data → Trail → Type 0
 IsPlainAt a d t = IsPlainInScript (js_value d) (in_code a t)
 
-plain-here : (a : At) → TakesData a → (d : Data) (f : Bool) (m : List ℕ) (k l : ℕ) → IsPlainAt a d (between_escapes f m k l)
-plain-here (Code s) h d f m k l =
-    let is = read-whole (Code s) f m k l (λ after e. e) (code-opens s) d in
+plain-here : (a : At) → TakesData a → (d : Data) (f : Bool) (m : List ℕ) (k l : ℕ) (z : PartLines) → IsPlainAt a d (between_escapes f m k l z)
+plain-here (Code s) h d f m k l z =
+    let is = read-whole (Code s) f m k l z (λ after e. e) (code-opens s) d in
     record { apart = refl; leads = is.0; tells = (d, is.1); written = (d, refl) }
-plain-here (Word w) h d f m k l =
-    let is = read-whole (Word w) f m k l (λ after e. e) (word-opens w) d in
+plain-here (Word w) h d f m k l z =
+    let is = read-whole (Word w) f m k l z (λ after e. e) (word-opens w) d in
     record { apart = refl; leads = is.0; tells = (d, is.1); written = (d, refl) }
-plain-here Number h d f m k l =
-    let is = read-whole Number f m k l (λ after e. e) number-opens d in
+plain-here Number h d f m k l z =
+    let is = read-whole Number f m k l z (λ after e. e) number-opens d in
     record { apart = refl; leads = is.0; tells = (d, is.1); written = (d, refl) }
-plain-here (Pluses odd) h d f m k l =
-    let is = read-whole (Pluses odd) f m k l (λ after e. e) (pluses-open odd) d in
+plain-here (Pluses odd) h d f m k l z =
+    let is = read-whole (Pluses odd) f m k l z (λ after e. e) (pluses-open odd) d in
     record { apart = refl; leads = is.0; tells = (d, is.1); written = (d, refl) }
-plain-here (Minuses odd) h d f m k l =
-    let is = read-whole (Minuses odd) f m k l (λ after e. e) (minuses-open odd) d in
+plain-here (Minuses odd) h d f m k l z =
+    let is = read-whole (Minuses odd) f m k l z (λ after e. e) (minuses-open odd) d in
     record { apart = refl; leads = is.0; tells = (d, is.1); written = (d, refl) }
-plain-here (Slash sense.Re) h d f m k l = absurd h
-plain-here (Slash sense.Div) h d f m k l =
-    let is = read-whole (Code sense.Re) f m k l (λ after e. e) (code-opens sense.Re) d in
-    record { apart = value-apart d sense.Div (between_escapes f m k l) tt; leads = is.0; tells = (d, is.1); written = (d, refl) }
-plain-here (Slash sense.Brace) h d f m k l =
-    let is = read-whole (Code sense.Re) f m k l (λ after e. e) (code-opens sense.Re) d in
-    record { apart = value-apart d sense.Brace (between_escapes f m k l) tt; leads = is.0; tells = (d, is.1); written = (d, refl) }
-plain-here (LineComment s) h d f m k l = absurd h
-plain-here (BlockComment s star) h d f m k l = absurd h
-plain-here (InString q e) h d f m k l = absurd h
-plain-here (InRegexp r e) h d f m k l = absurd h
-plain-here (InTemplate e dollar) h d f m k l = absurd h
-plain-here TooDeep h d f m k l = absurd h
+plain-here (Slash sense.Re) h d f m k l z = absurd h
+plain-here (Slash sense.Div) h d f m k l z =
+    let is = read-whole (Code sense.Re) f m k l z (λ after e. e) (code-opens sense.Re) d in
+    record { apart = value-apart d sense.Div (between_escapes f m k l z) tt; leads = is.0; tells = (d, is.1); written = (d, refl) }
+plain-here (Slash sense.Brace) h d f m k l z =
+    let is = read-whole (Code sense.Re) f m k l z (λ after e. e) (code-opens sense.Re) d in
+    record { apart = value-apart d sense.Brace (between_escapes f m k l z) tt; leads = is.0; tells = (d, is.1); written = (d, refl) }
+plain-here (LineComment s) h d f m k l z = absurd h
+plain-here (BlockComment s star) h d f m k l z = absurd h
+plain-here (InString q e) h d f m k l z = absurd h
+plain-here (InRegexp r e) h d f m k l z = absurd h
+plain-here (InTemplate e dollar) h d f m k l z = absurd h
+plain-here TooDeep h d f m k l z = absurd h
 
 -- A slash that is held back is told before.
 abbrev IsTold : At → Data → Trail → Type 0
 IsTold a d t = (read_on (js_value d) (script_reading (script_settled (in_code a t)) [])).told ≡ literal_events d []
 
-told-here : (a : At) → TakesData a → (d : Data) (f : Bool) (m : List ℕ) (k l : ℕ) → IsTold a d (between_escapes f m k l)
-told-here (Code s) h d f m k l = (read-whole (Code s) f m k l (λ after e. e) (code-opens s) d).1
-told-here (Word w) h d f m k l = (read-whole (Word w) f m k l (λ after e. e) (word-opens w) d).1
-told-here Number h d f m k l = (read-whole Number f m k l (λ after e. e) number-opens d).1
-told-here (Pluses odd) h d f m k l = (read-whole (Pluses odd) f m k l (λ after e. e) (pluses-open odd) d).1
-told-here (Minuses odd) h d f m k l = (read-whole (Minuses odd) f m k l (λ after e. e) (minuses-open odd) d).1
-told-here (Slash sense.Re) h d f m k l = absurd h
-told-here (Slash sense.Div) h d f m k l = (read-whole (Code sense.Re) f m k l (λ after e. e) (code-opens sense.Re) d).1
-told-here (Slash sense.Brace) h d f m k l = (read-whole (Code sense.Re) f m k l (λ after e. e) (code-opens sense.Re) d).1
-told-here (LineComment s) h d f m k l = absurd h
-told-here (BlockComment s star) h d f m k l = absurd h
-told-here (InString q e) h d f m k l = absurd h
-told-here (InRegexp r e) h d f m k l = absurd h
-told-here (InTemplate e dollar) h d f m k l = absurd h
-told-here TooDeep h d f m k l = absurd h
+told-here : (a : At) → TakesData a → (d : Data) (f : Bool) (m : List ℕ) (k l : ℕ) (z : PartLines) → IsTold a d (between_escapes f m k l z)
+told-here (Code s) h d f m k l z = (read-whole (Code s) f m k l z (λ after e. e) (code-opens s) d).1
+told-here (Word w) h d f m k l z = (read-whole (Word w) f m k l z (λ after e. e) (word-opens w) d).1
+told-here Number h d f m k l z = (read-whole Number f m k l z (λ after e. e) number-opens d).1
+told-here (Pluses odd) h d f m k l z = (read-whole (Pluses odd) f m k l z (λ after e. e) (pluses-open odd) d).1
+told-here (Minuses odd) h d f m k l z = (read-whole (Minuses odd) f m k l z (λ after e. e) (minuses-open odd) d).1
+told-here (Slash sense.Re) h d f m k l z = absurd h
+told-here (Slash sense.Div) h d f m k l z = (read-whole (Code sense.Re) f m k l z (λ after e. e) (code-opens sense.Re) d).1
+told-here (Slash sense.Brace) h d f m k l z = (read-whole (Code sense.Re) f m k l z (λ after e. e) (code-opens sense.Re) d).1
+told-here (LineComment s) h d f m k l z = absurd h
+told-here (BlockComment s star) h d f m k l z = absurd h
+told-here (InString q e) h d f m k l z = absurd h
+told-here (InRegexp r e) h d f m k l z = absurd h
+told-here (InTemplate e dollar) h d f m k l z = absurd h
+told-here TooDeep h d f m k l z = absurd h
 
 pub data-told : (a : At) (t : Trail) (d : Data) → TakesData a → IsBetweenEscapes t
     → (read_on (js_value d) (script_reading (script_settled (in_code a t)) [])).told ≡ literal_events d []
-data-told a t d takes is = between (IsTold a d) (λ f m k l. told-here a takes d f m k l) t is
+data-told a t d takes is = between (IsTold a d) (λ f m k l z. told-here a takes d f m k l z) t is
 
 pub data-plain : (a : At) (t : Trail) (d : Data) → TakesData a → IsBetweenEscapes t → IsPlainInScript (js_value d) (in_code a t)
-data-plain a t d takes is = between (IsPlainAt a d) (λ f m k l. plain-here a takes d f m k l) t is
+data-plain a t d takes is = between (IsPlainAt a d) (λ f m k l z. plain-here a takes d f m k l z) t is

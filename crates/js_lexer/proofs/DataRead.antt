@@ -72,25 +72,25 @@ digit-held b h = (let e = digit-ascii b h in rw e refl)
 
 -- a digit begins a number in code and behind a `-`, and goes on with one
 digit-begins : (s : Sense) (b : ℕ) → is_ascii_digit b ≡ true → (t : List ScriptEvent) → Reads (Code s) Number (b ∷ []) t (ScriptByte b ∷ NumberBegins ∷ t)
-digit-begins s b h t f m k l =
+digit-begins s b h t f m k l z =
     let e = digit-released b h in
     let g = digit-held b h in
-    read-here Number (ScriptByte b ∷ NumberBegins ∷ t) (read_on (b ∷ []) (script_reading (open_at (Code s) (between_escapes f m k l)) t)) (rw e (rw g refl))
+    read-here Number (ScriptByte b ∷ NumberBegins ∷ t) (read_on (b ∷ []) (script_reading (open_at (Code s) (between_escapes f m k l z)) t)) (rw e (rw g refl))
 
 digit-negates : (b : ℕ) → is_ascii_digit b ≡ true → (t : List ScriptEvent) → Reads (Minuses true) Number (b ∷ []) t (ScriptByte b ∷ NumberBegins ∷ t)
-digit-negates b h t f m k l =
+digit-negates b h t f m k l z =
     let e = digit-released b h in
     let g = digit-held b h in
-    read-here Number (ScriptByte b ∷ NumberBegins ∷ t) (read_on (b ∷ []) (script_reading (open_at (Minuses true) (between_escapes f m k l)) t)) (rw e (rw g refl))
+    read-here Number (ScriptByte b ∷ NumberBegins ∷ t) (read_on (b ∷ []) (script_reading (open_at (Minuses true) (between_escapes f m k l z)) t)) (rw e (rw g refl))
 
 digit-goes : (b : ℕ) → is_ascii_digit b ≡ true → (t : List ScriptEvent) → Reads Number Number (b ∷ []) t (ScriptByte b ∷ t)
-digit-goes b h t f m k l =
+digit-goes b h t f m k l z =
     let e = digit-released b h in
     let g = digit-held b h in
-    read-here Number (ScriptByte b ∷ t) (read_on (b ∷ []) (script_reading (open_at Number (between_escapes f m k l)) t)) (rw e (rw g refl))
+    read-here Number (ScriptByte b ∷ t) (read_on (b ∷ []) (script_reading (open_at Number (between_escapes f m k l z)) t)) (rw e (rw g refl))
 
 digits-go : (bytes : List ℕ) → AreDigits bytes → (t : List ScriptEvent) → Reads Number Number bytes t (script_bytes bytes t)
-digits-go [] h t = λ f m k l. record { fresh = f; markup = m; bracket = k; literal = l; is = refl }
+digits-go [] h t = λ f m k l z. record { fresh = f; markup = m; bracket = k; literal = l; lines = z; is = refl }
 digits-go (b ∷ bs) h t =
     then-reads Number Number Number (b ∷ []) bs t (ScriptByte b ∷ t) (script_bytes bs (ScriptByte b ∷ t)) (digit-goes b h.0 t) (digits-go bs h.1 (ScriptByte b ∷ t))
 
@@ -103,7 +103,7 @@ numeral-reads a first (b ∷ bs) h t =
 
 minus-begins : (s : Sense) (t : List ScriptEvent) → Reads (Code s) (Minuses true) (45 ∷ []) t (punctuator_event 45 t)
 unfolding class_of released held_after
-minus-begins s t f m k l = record { fresh = _; markup = _; bracket = _; literal = _; is = refl }
+minus-begins s t f m k l z = record { fresh = _; markup = _; bracket = _; literal = _; lines = _; is = refl }
 
 pub number-reads : (s : Sense) (n : ℤ) (t : List ScriptEvent) → Reads (Code s) Number (signed_decimal n) t (number_events n t)
 number-reads s (pos n) t = numeral-reads (Code s) (digit-begins s) (decimal n) (decimal-numeral n) t
@@ -121,25 +121,25 @@ record IsEnd (a : At) : Type 0 where
 code-ends : (s : Sense) → IsEnd (Code s)
 unfolding class_of released held_after
 code-ends s = record {
-  comma = λ t f m k l. record { fresh = _; markup = _; bracket = _; literal = _; is = refl };
-  bracket = λ t f m k l. record { fresh = _; markup = _; bracket = _; literal = _; is = refl };
-  brace = λ t f m k l. record { fresh = _; markup = _; bracket = _; literal = _; is = refl };
+  comma = λ t f m k l z. record { fresh = _; markup = _; bracket = _; literal = _; lines = _; is = refl };
+  bracket = λ t f m k l z. record { fresh = _; markup = _; bracket = _; literal = _; lines = _; is = refl };
+  brace = λ t f m k l z. record { fresh = _; markup = _; bracket = _; literal = _; lines = _; is = refl };
 }
 
 word-ends : (w : List ℕ) → IsEnd (Word w)
 unfolding class_of released held_after
 word-ends w = record {
-  comma = λ t f m k l. record { fresh = _; markup = _; bracket = _; literal = _; is = refl };
-  bracket = λ t f m k l. record { fresh = _; markup = _; bracket = _; literal = _; is = refl };
-  brace = λ t f m k l. record { fresh = _; markup = _; bracket = _; literal = _; is = refl };
+  comma = λ t f m k l z. record { fresh = _; markup = _; bracket = _; literal = _; lines = _; is = refl };
+  bracket = λ t f m k l z. record { fresh = _; markup = _; bracket = _; literal = _; lines = _; is = refl };
+  brace = λ t f m k l z. record { fresh = _; markup = _; bracket = _; literal = _; lines = _; is = refl };
 }
 
 number-ends : IsEnd Number
 unfolding class_of released held_after
 number-ends = record {
-  comma = λ t f m k l. record { fresh = _; markup = _; bracket = _; literal = _; is = refl };
-  bracket = λ t f m k l. record { fresh = _; markup = _; bracket = _; literal = _; is = refl };
-  brace = λ t f m k l. record { fresh = _; markup = _; bracket = _; literal = _; is = refl };
+  comma = λ t f m k l z. record { fresh = _; markup = _; bracket = _; literal = _; lines = _; is = refl };
+  bracket = λ t f m k l z. record { fresh = _; markup = _; bracket = _; literal = _; lines = _; is = refl };
+  brace = λ t f m k l z. record { fresh = _; markup = _; bracket = _; literal = _; lines = _; is = refl };
 }
 
 abbrev ended : Data → At
@@ -163,15 +163,15 @@ ends (dict _) = code-ends sense.Brace
 -- a space after it
 pub code-blank : (s : Sense) (t : List ScriptEvent) → Reads (Code s) (Code s) (32 ∷ []) t t
 unfolding class_of released held_after
-code-blank s t f m k l = record { fresh = _; markup = _; bracket = _; literal = _; is = refl }
+code-blank s t f m k l z = record { fresh = _; markup = _; bracket = _; literal = _; lines = _; is = refl }
 
 pub word-blank : (w : List ℕ) (t : List ScriptEvent) → Reads (Word w) (Code (sense_after w)) (32 ∷ []) t t
 unfolding class_of released held_after
-word-blank w t f m k l = record { fresh = _; markup = _; bracket = _; literal = _; is = refl }
+word-blank w t f m k l z = record { fresh = _; markup = _; bracket = _; literal = _; lines = _; is = refl }
 
 pub number-blank : (t : List ScriptEvent) → Reads Number (Code sense.Div) (32 ∷ []) t t
 unfolding class_of released held_after
-number-blank t f m k l = record { fresh = _; markup = _; bracket = _; literal = _; is = refl }
+number-blank t f m k l z = record { fresh = _; markup = _; bracket = _; literal = _; lines = _; is = refl }
 
 -- The first byte of a value that stands between no spaces, and a space.
 pub record IsOpen (a : At) : Type 0 where
@@ -185,68 +185,68 @@ pub code-opens : (s : Sense) → IsOpen (Code s)
 unfolding class_of released held_after
 code-opens s = record {
   settles = s;
-  blank = λ t f m k l. record { fresh = _; markup = _; bracket = _; literal = _; is = refl };
-  quote = λ t f m k l. record { fresh = _; markup = _; bracket = _; literal = _; is = refl };
-  bracket = λ t f m k l. record { fresh = _; markup = _; bracket = _; literal = _; is = refl };
-  brace = λ t f m k l. record { fresh = _; markup = _; bracket = _; literal = _; is = refl };
+  blank = λ t f m k l z. record { fresh = _; markup = _; bracket = _; literal = _; lines = _; is = refl };
+  quote = λ t f m k l z. record { fresh = _; markup = _; bracket = _; literal = _; lines = _; is = refl };
+  bracket = λ t f m k l z. record { fresh = _; markup = _; bracket = _; literal = _; lines = _; is = refl };
+  brace = λ t f m k l z. record { fresh = _; markup = _; bracket = _; literal = _; lines = _; is = refl };
 }
 
 pub word-opens : (w : List ℕ) → IsOpen (Word w)
 unfolding class_of released held_after
 word-opens w = record {
   settles = _;
-  blank = λ t f m k l. record { fresh = _; markup = _; bracket = _; literal = _; is = refl };
-  quote = λ t f m k l. record { fresh = _; markup = _; bracket = _; literal = _; is = refl };
-  bracket = λ t f m k l. record { fresh = _; markup = _; bracket = _; literal = _; is = refl };
-  brace = λ t f m k l. record { fresh = _; markup = _; bracket = _; literal = _; is = refl };
+  blank = λ t f m k l z. record { fresh = _; markup = _; bracket = _; literal = _; lines = _; is = refl };
+  quote = λ t f m k l z. record { fresh = _; markup = _; bracket = _; literal = _; lines = _; is = refl };
+  bracket = λ t f m k l z. record { fresh = _; markup = _; bracket = _; literal = _; lines = _; is = refl };
+  brace = λ t f m k l z. record { fresh = _; markup = _; bracket = _; literal = _; lines = _; is = refl };
 }
 
 pub number-opens : IsOpen Number
 unfolding class_of released held_after
 number-opens = record {
   settles = _;
-  blank = λ t f m k l. record { fresh = _; markup = _; bracket = _; literal = _; is = refl };
-  quote = λ t f m k l. record { fresh = _; markup = _; bracket = _; literal = _; is = refl };
-  bracket = λ t f m k l. record { fresh = _; markup = _; bracket = _; literal = _; is = refl };
-  brace = λ t f m k l. record { fresh = _; markup = _; bracket = _; literal = _; is = refl };
+  blank = λ t f m k l z. record { fresh = _; markup = _; bracket = _; literal = _; lines = _; is = refl };
+  quote = λ t f m k l z. record { fresh = _; markup = _; bracket = _; literal = _; lines = _; is = refl };
+  bracket = λ t f m k l z. record { fresh = _; markup = _; bracket = _; literal = _; lines = _; is = refl };
+  brace = λ t f m k l z. record { fresh = _; markup = _; bracket = _; literal = _; lines = _; is = refl };
 }
 
 pub pluses-open : (odd : Bool) → IsOpen (Pluses odd)
 unfolding class_of released held_after
 pluses-open odd = record {
   settles = _;
-  blank = λ t f m k l. record { fresh = _; markup = _; bracket = _; literal = _; is = refl };
-  quote = λ t f m k l. record { fresh = _; markup = _; bracket = _; literal = _; is = refl };
-  bracket = λ t f m k l. record { fresh = _; markup = _; bracket = _; literal = _; is = refl };
-  brace = λ t f m k l. record { fresh = _; markup = _; bracket = _; literal = _; is = refl };
+  blank = λ t f m k l z. record { fresh = _; markup = _; bracket = _; literal = _; lines = _; is = refl };
+  quote = λ t f m k l z. record { fresh = _; markup = _; bracket = _; literal = _; lines = _; is = refl };
+  bracket = λ t f m k l z. record { fresh = _; markup = _; bracket = _; literal = _; lines = _; is = refl };
+  brace = λ t f m k l z. record { fresh = _; markup = _; bracket = _; literal = _; lines = _; is = refl };
 }
 
 pub minuses-open : (odd : Bool) → IsOpen (Minuses odd)
 unfolding class_of released held_after
 minuses-open odd = record {
   settles = _;
-  blank = λ t f m k l. record { fresh = _; markup = _; bracket = _; literal = _; is = refl };
-  quote = λ t f m k l. record { fresh = _; markup = _; bracket = _; literal = _; is = refl };
-  bracket = λ t f m k l. record { fresh = _; markup = _; bracket = _; literal = _; is = refl };
-  brace = λ t f m k l. record { fresh = _; markup = _; bracket = _; literal = _; is = refl };
+  blank = λ t f m k l z. record { fresh = _; markup = _; bracket = _; literal = _; lines = _; is = refl };
+  quote = λ t f m k l z. record { fresh = _; markup = _; bracket = _; literal = _; lines = _; is = refl };
+  bracket = λ t f m k l z. record { fresh = _; markup = _; bracket = _; literal = _; lines = _; is = refl };
+  brace = λ t f m k l z. record { fresh = _; markup = _; bracket = _; literal = _; lines = _; is = refl };
 }
 
 -- `null`, `true` and `false`
 pub null-reads : (s : Sense) (t : List ScriptEvent) → Reads (Code s) (Word (codes "null")) (codes "null") t (word_events (codes "null") t)
 unfolding class_of released held_after
-null-reads s t f m k l = record { fresh = _; markup = _; bracket = _; literal = _; is = refl }
+null-reads s t f m k l z = record { fresh = _; markup = _; bracket = _; literal = _; lines = _; is = refl }
 
 pub true-reads : (s : Sense) (t : List ScriptEvent) → Reads (Code s) (Word (codes "true")) (codes "true") t (word_events (codes "true") t)
 unfolding class_of released held_after
-true-reads s t f m k l = record { fresh = _; markup = _; bracket = _; literal = _; is = refl }
+true-reads s t f m k l z = record { fresh = _; markup = _; bracket = _; literal = _; lines = _; is = refl }
 
 pub false-reads : (s : Sense) (t : List ScriptEvent) → Reads (Code s) (Word (codes "false")) (codes "false") t (word_events (codes "false") t)
 unfolding class_of released held_after
-false-reads s t f m k l = record { fresh = _; markup = _; bracket = _; literal = _; is = refl }
+false-reads s t f m k l z = record { fresh = _; markup = _; bracket = _; literal = _; lines = _; is = refl }
 
 colon : (s : Sense) (t : List ScriptEvent) → Reads (Code s) (Code sense.Re) (58 ∷ []) t (punctuator_event 58 t)
 unfolding class_of released held_after
-colon s t f m k l = record { fresh = _; markup = _; bracket = _; literal = _; is = refl }
+colon s t f m k l z = record { fresh = _; markup = _; bracket = _; literal = _; lines = _; is = refl }
 
 pub text-reads : (a : At) → IsOpen a → (bytes : List ℕ) (t : List ScriptEvent) → Reads a (Code sense.Div) (json_text bytes) t (text_events bytes t)
 text-reads a start bytes t =

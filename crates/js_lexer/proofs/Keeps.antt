@@ -1,6 +1,6 @@
 -- The laws of the reading of scripts.
-use Rattle.std.proofs.Common.{◌≡◌, ◌⊎◌, inl, inr, ℕ, Bool, true, false, ◌&&◌, List, [], ◌∷◌, Option, None, length, if◌then◌else◌, refl, sym, ap, ◌∙◌}
-use Rattle.js_lexer.specs.Alike.{HaveSameEscape, IsPassed, IsSame, ScriptsAlike}
+use Rattle.std.proofs.Common.{◌≡◌, ◌⊎◌, inl, inr, ℕ, zero, suc, ◌==◌, Bool, true, false, true≢false, ◌&&◌, List, [], ◌∷◌, Option, None, length, if◌then◌else◌, refl, sym, ap, ◌∙◌}
+use Rattle.js_lexer.specs.Alike.{HaveSameEscape, IsPassed, IsSame, ScriptsAlike, is_open_brace}
 use Rattle.js_lexer.specs.Classes.{class_of}
 use Rattle.js_lexer.specs.Events.{ScriptEvent}
 use Rattle.js_lexer.specs.Feeding.{points, tells_all, tells_white_apart, read_at, held_at, tells_held_slash, tells_end, feed_script, script_emits, feed_class, script_emits_class, script_ends, released_point, emits_released}
@@ -8,7 +8,7 @@ use Rattle.js_lexer.specs.Holes.{paged, as_page, settled_at, script_settled, scr
 use Rattle.js_lexer.specs.Laws.{ScriptLaws}
 use Rattle.js_lexer.specs.Refusals.{Cause, cause, first_script_cause, splits_first, SplitToken, script_refuses, script_refuses_class, refusal_outside}
 use Rattle.js_lexer.specs.States.{NoEscape, At, Code, Word, Number, Pluses, Minuses, Slash, LineComment, BlockComment, InString, InRegexp, InTemplate, TooDeep, ScriptPoint, point, ScriptState}
-use Rattle.js_lexer.specs.Trails.{brace_after, escape_after}
+use Rattle.js_lexer.specs.Trails.{brace_after, escape_after, next_brace}
 use Rattle.js_lexer.specs.WhiteSpace.{ClassedByte, classed_as}
 use Rattle.js_lexer.specs.declared.class.ScriptClass.{ScriptClass}
 use Rattle.js_lexer.specs.declared.class.ScriptClass.TheVariants as class
@@ -155,7 +155,7 @@ same-settles v w t s =
     (same-released v.literals w.literals v.held w.held v.at w.at s.literals s.held s.at)
     (same-emits_released v.literals w.literals v.held w.held v.at w.at t s.literals s.held s.at)
 
-same-ends : (v w : ScriptState) (t : List ScriptEvent) → IsSame v w → script_ends w t ≡ script_ends v t
+pub same-ends : (v w : ScriptState) (t : List ScriptEvent) → IsSame v w → script_ends w t ≡ script_ends v t
 same-ends v w t s =
     end-of (released_point v) (released_point w) (script_emits_settled v t) (script_emits_settled w t)
     (same-released v.literals w.literals v.held w.held v.at w.at s.literals s.held s.at)
@@ -268,12 +268,12 @@ passed-hole v w after s h =
     ]
 
 -- The escape that is open: it is by where a byte has led, and by the escape before.
-escape-paged : (a : At) (m : List ℕ) (b : ℕ) → escape_after a m b ≡ escape_after (as_page a) m b
+pub escape-paged : (a : At) (m : List ℕ) (b : ℕ) → escape_after a m b ≡ escape_after (as_page a) m b
 escape-paged (InString q e) m b = refl
 escape-paged (InRegexp k e) m b = refl
 escape-paged a m b = refl
 
-brace-paged : (a : At) (m : List ℕ) (n b : ℕ) → brace_after a m n b ≡ brace_after (as_page a) m n b
+pub brace-paged : (a : At) (m : List ℕ) (n b : ℕ) → brace_after a m n b ≡ brace_after (as_page a) m n b
 brace-paged (InString q e) m n b = refl
 brace-paged (InRegexp k e) m n b = refl
 brace-paged a m n b = refl
@@ -281,10 +281,28 @@ brace-paged a m n b = refl
 same-escape : (a d : At) (m k : List ℕ) (b : ℕ) → k ≡ m → as_page d ≡ as_page a → escape_after d k b ≡ escape_after a m b
 same-escape a d m k b e f = escape-paged d k b ∙ rw (e, f) refl ∙ sym (escape-paged a m b)
 
-same-brace : (a d : At) (m k : List ℕ) (n l b : ℕ) → k ≡ m → l ≡ n → as_page d ≡ as_page a → brace_after d k l b ≡ brace_after a m n b
-same-brace a d m k n l b e g f = brace-paged d k l b ∙ rw (e, g, f) refl ∙ sym (brace-paged a m n b)
+-- whether a `\u{` is open
+both-open : (x : Bool) (l n : ℕ) → is_open_brace (if x then 0 else suc (suc l)) ≡ is_open_brace (if x then 0 else suc (suc n))
+both-open true l n = refl
+both-open false l n = refl
 
-escape-feeds : (v w : ScriptState) (c : ScriptClass) (b : ℕ) → HaveSameEscape v w → IsSame (feed_class v c b) (feed_class w c b) → HaveSameEscape (feed_class v c b) (feed_class w c b)
+still-open : (m : List ℕ) (n l b : ℕ) → is_open_brace l ≡ is_open_brace n → is_open_brace (next_brace m l b) ≡ is_open_brace (next_brace m n b)
+still-open m zero zero b e = refl
+still-open m zero (suc l) b e = absurd (true≢false e)
+still-open m (suc n) zero b e = absurd (true≢false (sym e))
+still-open m (suc n) (suc l) b e = both-open (b == 125) l n
+
+same-open : (a : At) (m : List ℕ) (n l b : ℕ) → is_open_brace l ≡ is_open_brace n → is_open_brace (brace_after a m l b) ≡ is_open_brace (brace_after a m n b)
+same-open (InString q e) m n l b h = still-open m n l b h
+same-open (InRegexp k e) m n l b h = still-open m n l b h
+same-open a m n l b h = refl
+
+same-brace : (a d : At) (m k : List ℕ) (n l b : ℕ) → k ≡ m → is_open_brace l ≡ is_open_brace n → as_page d ≡ as_page a → is_open_brace (brace_after d k l b) ≡ is_open_brace (brace_after a m n b)
+same-brace a d m k n l b e g f =
+    ap is_open_brace (brace-paged d k l b ∙ rw (e, f) refl ∙ sym (brace-paged a m l b))
+    ∙ same-open a m n l b g
+
+pub escape-feeds : (v w : ScriptState) (c : ScriptClass) (b : ℕ) → HaveSameEscape v w → IsSame (feed_class v c b) (feed_class w c b) → HaveSameEscape (feed_class v c b) (feed_class w c b)
 escape-feeds v w c b h s =
     let p = feed_class v c b in
     let q = feed_class w c b in
@@ -294,7 +312,7 @@ escape-feeds v w c b h s =
     }
 
 escape-hole : (v w after : ScriptState) → ScriptLeadsPlain (script_settled w) after → HaveSameEscape (script_after_hole v) after
-escape-hole v w after h = record { escape = h.whole_after.none; brace = h.whole_after.closed }
+escape-hole v w after h = record { escape = h.whole_after.none; brace = ap is_open_brace h.whole_after.closed }
 
 cut-alike : (v w : ScriptState) → ScriptsAlike v w → ScriptsAlike (script_after_cut v) w
 cut-alike v w (h, o) = (

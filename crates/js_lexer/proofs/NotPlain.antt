@@ -178,7 +178,7 @@ in_template : NotPlain (codes "x=`a") (codes "b")
 unfolding class_of released held_after lib.Utf8.encode
 in_template p = p.leads.at
 
--- States that are not alike: a slash is another thing in them; a string, and code; two strings.
+-- States that are not alike: a slash is another thing in them; a string, and code; two strings; an escape that is open in one of them.
 abbrev NotAlike : List ℕ → List ℕ → Type 0
 NotAlike one other = ScriptsAlike (script_state_after one script_start) (script_state_after other script_start) → ⊥
 
@@ -196,6 +196,14 @@ star_that_is_open : NotAlike (codes "/* *") (codes "/* ")
 unfolding class_of released held_after lib.Utf8.encode
 star_that_is_open (h, inl s) = star-or-none s.at
 star_that_is_open (h, inr s) = no-true s.fresh
+
+escape_that_is_open : NotAlike (codes "x='") (codes "x='\\u")
+unfolding class_of released held_after lib.Utf8.encode
+escape_that_is_open (h, s) = some-escape _ _ h.escape
+
+brace_that_is_open : NotAlike (codes "x='") (codes "x='\\u{")
+unfolding class_of released held_after lib.Utf8.encode
+brace_that_is_open (h, s) = no-true (sym h.brace)
 
 -- Scripts that tell other things: data that ends its string; a slash and a minus that join what stands before; runs of another length.
 abbrev ends_in_run : List ScriptEvent → Bool

@@ -9,7 +9,7 @@ use Rattle.js_lexer.specs.Feeding.{feed_script, script_emits, ScriptReading, scr
 use Rattle.js_lexer.specs.Holes.{IsBetweenEscapes}
 use Rattle.js_lexer.specs.Plain.{only_bytes}
 use Rattle.js_lexer.specs.Sanitizers.{Rows, script_stands_at, escaped_at, taken_at, escaped_from}
-use Rattle.js_lexer.specs.States.{At, Trail, ScriptState}
+use Rattle.js_lexer.specs.States.{At, PartLines, Trail, ScriptState}
 use Rattle.js_lexer.specs.declared.class.ScriptClass.{ScriptClass}
 use Rattle.js_lexer.specs.declared.class.ScriptClass.TheVariants as class
 
@@ -18,14 +18,14 @@ abbrev pub open_at : At → Trail → ScriptState
 open_at a t = record { literals = []; at = a; held = []; trail = t }
 
 -- between escapes
-abbrev pub between_escapes : Bool → List ℕ → ℕ → ℕ → Trail
-between_escapes f m k l = record { fresh = f; markup = m; escape = []; brace = 0; bracket = k; literal = l }
+abbrev pub between_escapes : Bool → List ℕ → ℕ → ℕ → PartLines → Trail
+between_escapes f m k l z = record { fresh = f; markup = m; escape = []; brace = 0; bracket = k; literal = l; lines = z }
 
-pub between : (P : Trail → Type 0) → ((f : Bool) (m : List ℕ) (k l : ℕ) → P (between_escapes f m k l)) → (t : Trail) → IsBetweenEscapes t → P t
+pub between : (P : Trail → Type 0) → ((f : Bool) (m : List ℕ) (k l : ℕ) (z : PartLines) → P (between_escapes f m k l z)) → (t : Trail) → IsBetweenEscapes t → P t
 between P h t is =
-    subst (λ (e : List ℕ). P (record { fresh = t.fresh; markup = t.markup; escape = e; brace = t.brace; bracket = t.bracket; literal = t.literal })) (sym is.none)
-    (subst (λ (n : ℕ). P (record { fresh = t.fresh; markup = t.markup; escape = []; brace = n; bracket = t.bracket; literal = t.literal })) (sym is.closed)
-    (h t.fresh t.markup t.bracket t.literal))
+    subst (λ (e : List ℕ). P (record { fresh = t.fresh; markup = t.markup; escape = e; brace = t.brace; bracket = t.bracket; literal = t.literal; lines = t.lines })) (sym is.none)
+    (subst (λ (n : ℕ). P (record { fresh = t.fresh; markup = t.markup; escape = []; brace = n; bracket = t.bracket; literal = t.literal; lines = t.lines })) (sym is.closed)
+    (h t.fresh t.markup t.bracket t.literal t.lines))
 
 -- a reading that stands there, and has told bytes alone
 pub record IsWithin (a : At) (r : ScriptReading) : Type 0 where
@@ -33,17 +33,18 @@ pub record IsWithin (a : At) (r : ScriptReading) : Type 0 where
   pub markup : List ℕ
   pub bracket : ℕ
   pub literal : ℕ
-  pub stands : r.state ≡ open_at a (between_escapes fresh markup bracket literal)
+  pub lines : PartLines
+  pub stands : r.state ≡ open_at a (between_escapes fresh markup bracket literal lines)
   pub told : only_bytes r.told ≡ true
 
-pub within : (a : At) (r : ScriptReading) → r.state ≡ open_at a (between_escapes r.state.trail.fresh r.state.trail.markup r.state.trail.bracket r.state.trail.literal)
+pub within : (a : At) (r : ScriptReading) → r.state ≡ open_at a (between_escapes r.state.trail.fresh r.state.trail.markup r.state.trail.bracket r.state.trail.literal r.state.trail.lines)
     → only_bytes r.told ≡ true → IsWithin a r
-within a r e h = record { fresh = r.state.trail.fresh; markup = r.state.trail.markup; bracket = r.state.trail.bracket; literal = r.state.trail.literal; stands = e; told = h }
+within a r e h = record { fresh = r.state.trail.fresh; markup = r.state.trail.markup; bracket = r.state.trail.bracket; literal = r.state.trail.literal; lines = r.state.trail.lines; stands = e; told = h }
 
 -- bytes that lead from there to there
 abbrev pub Stays : At → List ℕ → Type 0
 Stays a bytes =
-    (f : Bool) (m : List ℕ) (k l : ℕ) (t : List ScriptEvent) → only_bytes t ≡ true → IsWithin a (read_on bytes (script_reading (open_at a (between_escapes f m k l)) t))
+    (f : Bool) (m : List ℕ) (k l : ℕ) (z : PartLines) (t : List ScriptEvent) → only_bytes t ≡ true → IsWithin a (read_on bytes (script_reading (open_at a (between_escapes f m k l z)) t))
 
 -- it holds of what each row writes
 abbrev pub EachWritten : (List ℕ → Type 0) → Rows → Type 0
@@ -156,18 +157,18 @@ read-append [] ys r = refl
 read-append (x ∷ xs) ys r = read-append xs ys (script_reading (feed_script r.state x) (script_emits r.state x r.told))
 
 append-stays : (a : At) (xs ys : List ℕ) → Stays a xs → Stays a ys → Stays a (xs ++ ys)
-append-stays a xs ys one other f m k l t h =
-    let from = script_reading (open_at a (between_escapes f m k l)) t in
-    let is = one f m k l t h in
-    let there = other is.fresh is.markup is.bracket is.literal (read_on xs from).told is.told in
+append-stays a xs ys one other f m k l z t h =
+    let from = script_reading (open_at a (between_escapes f m k l z)) t in
+    let is = one f m k l z t h in
+    let there = other is.fresh is.markup is.bracket is.literal is.lines (read_on xs from).told is.told in
     subst (IsWithin a) (sym (read-append xs ys from))
     (subst (λ (s : ScriptState). IsWithin a (read_on ys (script_reading s (read_on xs from).told))) (sym is.stands) there)
 
 pub escaped-stays : (a : At) (rows : Rows) → EachWritten (Stays a) rows → ((b : ℕ) (bs : List ℕ) → leaves rows (b ∷ bs) ≡ true → Stays a (b ∷ [])) → (n : ℕ) (bs : List ℕ)
     → Stays a (escaped_from rows n bs)
-escaped-stays a rows each other zero [] f m k l t h = within a (script_reading (open_at a (between_escapes f m k l)) t) refl h
-escaped-stays a rows each other (suc n) [] f m k l t h = within a (script_reading (open_at a (between_escapes f m k l)) t) refl h
-escaped-stays a rows each other (suc n) (b ∷ bs) f m k l t h = escaped-stays a rows each other n bs f m k l t h
-escaped-stays a rows each other zero (b ∷ bs) f m k l t h =
+escaped-stays a rows each other zero [] f m k l z t h = within a (script_reading (open_at a (between_escapes f m k l z)) t) refl h
+escaped-stays a rows each other (suc n) [] f m k l z t h = within a (script_reading (open_at a (between_escapes f m k l z)) t) refl h
+escaped-stays a rows each other (suc n) (b ∷ bs) f m k l z t h = escaped-stays a rows each other n bs f m k l z t h
+escaped-stays a rows each other zero (b ∷ bs) f m k l z t h =
     append-stays a (escaped_at rows (b ∷ bs)) (escaped_from rows (taken_at rows (b ∷ bs)) bs)
-    (written-at (Stays a) rows b bs each (other b bs)) (escaped-stays a rows each other (taken_at rows (b ∷ bs)) bs) f m k l t h
+    (written-at (Stays a) rows b bs each (other b bs)) (escaped-stays a rows each other (taken_at rows (b ∷ bs)) bs) f m k l z t h

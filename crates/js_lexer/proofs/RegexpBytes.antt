@@ -7,7 +7,7 @@ use Rattle.js_lexer.specs.Feeding.{feed_class, script_emits_class, script_readin
 use Rattle.js_lexer.specs.Holes.{IsBetweenEscapes}
 use Rattle.js_lexer.specs.Plain.{only_bytes, IsPlainInScript}
 use Rattle.js_lexer.specs.Sanitizers.{Rows, escaped_at, taken_at, escaped_from, string_rows, regexp_rows, empty_expression, js_regexp}
-use Rattle.js_lexer.specs.States.{NoEscape, At, InRegexp, Trail, ScriptState}
+use Rattle.js_lexer.specs.States.{NoEscape, At, InRegexp, PartLines, Trail, ScriptState}
 use Rattle.js_lexer.specs.WhiteSpace.{released, held_after}
 use Rattle.js_lexer.specs.declared.class.ScriptClass.{ScriptClass}
 use Rattle.js_lexer.specs.declared.class.ScriptClass.TheVariants as class
@@ -20,39 +20,39 @@ regexp_at = InRegexp false NoEscape
 rows-stay : EachWritten (Stays regexp_at) string_rows
 unfolding class_of released held_after
 rows-stay = (
-  λ f m k l t h. record { fresh = _; markup = _; bracket = _; literal = _; stands = refl; told = h },
+  λ f m k l z t h. record { fresh = _; markup = _; bracket = _; literal = _; lines = _; stands = refl; told = h },
   (
-    λ f m k l t h. record { fresh = _; markup = _; bracket = _; literal = _; stands = refl; told = h },
+    λ f m k l z t h. record { fresh = _; markup = _; bracket = _; literal = _; lines = _; stands = refl; told = h },
     (
-      λ f m k l t h. record { fresh = _; markup = _; bracket = _; literal = _; stands = refl; told = h },
+      λ f m k l z t h. record { fresh = _; markup = _; bracket = _; literal = _; lines = _; stands = refl; told = h },
       (
-        λ f m k l t h. record { fresh = _; markup = _; bracket = _; literal = _; stands = refl; told = h },
+        λ f m k l z t h. record { fresh = _; markup = _; bracket = _; literal = _; lines = _; stands = refl; told = h },
         (
-          λ f m k l t h. record { fresh = _; markup = _; bracket = _; literal = _; stands = refl; told = h },
+          λ f m k l z t h. record { fresh = _; markup = _; bracket = _; literal = _; lines = _; stands = refl; told = h },
           (
-            λ f m k l t h. record { fresh = _; markup = _; bracket = _; literal = _; stands = refl; told = h },
+            λ f m k l z t h. record { fresh = _; markup = _; bracket = _; literal = _; lines = _; stands = refl; told = h },
             (
-              λ f m k l t h. record { fresh = _; markup = _; bracket = _; literal = _; stands = refl; told = h },
+              λ f m k l z t h. record { fresh = _; markup = _; bracket = _; literal = _; lines = _; stands = refl; told = h },
               (
-                λ f m k l t h. record { fresh = _; markup = _; bracket = _; literal = _; stands = refl; told = h },
+                λ f m k l z t h. record { fresh = _; markup = _; bracket = _; literal = _; lines = _; stands = refl; told = h },
                 (
-                  λ f m k l t h. record { fresh = _; markup = _; bracket = _; literal = _; stands = refl; told = h },
+                  λ f m k l z t h. record { fresh = _; markup = _; bracket = _; literal = _; lines = _; stands = refl; told = h },
                   (
-                    λ f m k l t h. record { fresh = _; markup = _; bracket = _; literal = _; stands = refl; told = h },
+                    λ f m k l z t h. record { fresh = _; markup = _; bracket = _; literal = _; lines = _; stands = refl; told = h },
                     (
-                      λ f m k l t h. record { fresh = _; markup = _; bracket = _; literal = _; stands = refl; told = h },
+                      λ f m k l z t h. record { fresh = _; markup = _; bracket = _; literal = _; lines = _; stands = refl; told = h },
                       (
-                        λ f m k l t h. record { fresh = _; markup = _; bracket = _; literal = _; stands = refl; told = h },
+                        λ f m k l z t h. record { fresh = _; markup = _; bracket = _; literal = _; lines = _; stands = refl; told = h },
                         (
-                          λ f m k l t h. record { fresh = _; markup = _; bracket = _; literal = _; stands = refl; told = h },
+                          λ f m k l z t h. record { fresh = _; markup = _; bracket = _; literal = _; lines = _; stands = refl; told = h },
                           (
-                            λ f m k l t h. record { fresh = _; markup = _; bracket = _; literal = _; stands = refl; told = h },
+                            λ f m k l z t h. record { fresh = _; markup = _; bracket = _; literal = _; lines = _; stands = refl; told = h },
                             (
-                              λ f m k l t h. record { fresh = _; markup = _; bracket = _; literal = _; stands = refl; told = h },
+                              λ f m k l z t h. record { fresh = _; markup = _; bracket = _; literal = _; lines = _; stands = refl; told = h },
                               (
-                                λ f m k l t h. record { fresh = _; markup = _; bracket = _; literal = _; stands = refl; told = h },
+                                λ f m k l z t h. record { fresh = _; markup = _; bracket = _; literal = _; lines = _; stands = refl; told = h },
                                 (
-                                  λ f m k l t h. record { fresh = _; markup = _; bracket = _; literal = _; stands = refl; told = h },
+                                  λ f m k l z t h. record { fresh = _; markup = _; bracket = _; literal = _; lines = _; stands = refl; told = h },
                                   tt,
                                 ),
                               ),
@@ -75,30 +75,30 @@ rows-stay = (
 syntax-stays : EachWritten (Stays regexp_at) syntax_rows
 unfolding class_of released held_after
 syntax-stays = (
-  λ f m k l t h. record { fresh = _; markup = _; bracket = _; literal = _; stands = refl; told = h },
+  λ f m k l z t h. record { fresh = _; markup = _; bracket = _; literal = _; lines = _; stands = refl; told = h },
   (
-    λ f m k l t h. record { fresh = _; markup = _; bracket = _; literal = _; stands = refl; told = h },
+    λ f m k l z t h. record { fresh = _; markup = _; bracket = _; literal = _; lines = _; stands = refl; told = h },
     (
-      λ f m k l t h. record { fresh = _; markup = _; bracket = _; literal = _; stands = refl; told = h },
+      λ f m k l z t h. record { fresh = _; markup = _; bracket = _; literal = _; lines = _; stands = refl; told = h },
       (
-        λ f m k l t h. record { fresh = _; markup = _; bracket = _; literal = _; stands = refl; told = h },
+        λ f m k l z t h. record { fresh = _; markup = _; bracket = _; literal = _; lines = _; stands = refl; told = h },
         (
-          λ f m k l t h. record { fresh = _; markup = _; bracket = _; literal = _; stands = refl; told = h },
+          λ f m k l z t h. record { fresh = _; markup = _; bracket = _; literal = _; lines = _; stands = refl; told = h },
           (
-            λ f m k l t h. record { fresh = _; markup = _; bracket = _; literal = _; stands = refl; told = h },
+            λ f m k l z t h. record { fresh = _; markup = _; bracket = _; literal = _; lines = _; stands = refl; told = h },
             (
-              λ f m k l t h. record { fresh = _; markup = _; bracket = _; literal = _; stands = refl; told = h },
+              λ f m k l z t h. record { fresh = _; markup = _; bracket = _; literal = _; lines = _; stands = refl; told = h },
               (
-                λ f m k l t h. record { fresh = _; markup = _; bracket = _; literal = _; stands = refl; told = h },
+                λ f m k l z t h. record { fresh = _; markup = _; bracket = _; literal = _; lines = _; stands = refl; told = h },
                 (
-                  λ f m k l t h. record { fresh = _; markup = _; bracket = _; literal = _; stands = refl; told = h },
+                  λ f m k l z t h. record { fresh = _; markup = _; bracket = _; literal = _; lines = _; stands = refl; told = h },
                   (
-                    λ f m k l t h. record { fresh = _; markup = _; bracket = _; literal = _; stands = refl; told = h },
+                    λ f m k l z t h. record { fresh = _; markup = _; bracket = _; literal = _; lines = _; stands = refl; told = h },
                     (
-                      λ f m k l t h. record { fresh = _; markup = _; bracket = _; literal = _; stands = refl; told = h },
+                      λ f m k l z t h. record { fresh = _; markup = _; bracket = _; literal = _; lines = _; stands = refl; told = h },
                       (
-                        λ f m k l t h. record { fresh = _; markup = _; bracket = _; literal = _; stands = refl; told = h },
-                        (λ f m k l t h. record { fresh = _; markup = _; bracket = _; literal = _; stands = refl; told = h }, tt),
+                        λ f m k l z t h. record { fresh = _; markup = _; bracket = _; literal = _; lines = _; stands = refl; told = h },
+                        (λ f m k l z t h. record { fresh = _; markup = _; bracket = _; literal = _; lines = _; stands = refl; told = h }, tt),
                       ),
                     ),
                   ),
@@ -116,13 +116,13 @@ both-stay : (rows more : Rows) → EachWritten (Stays regexp_at) rows → EachWr
 both-stay [] more are are_more = are_more
 both-stay (row ∷ rows) more are are_more = (are.0, both-stay rows more are.1 are_more)
 
-class-stays : (c : ScriptClass) (b : ℕ) → is_fine c true ≡ true → b == 92 ≡ false → (f : Bool) (m : List ℕ) (k l : ℕ) (t : List ScriptEvent) → only_bytes t ≡ true
-    → IsWithin regexp_at (script_reading (feed_class (in_regexp (between_escapes f m k l)) c b) (script_emits_class (in_regexp (between_escapes f m k l)) c b t))
-class-stays class.LineEnd b g e f m k l t h = absurd (no-true g)
-class-stays class.Solidus b g e f m k l t h = absurd (no-true g)
-class-stays class.OpenBracket b g e f m k l t h = absurd (no-true g)
-class-stays c b g e f m k l t h =
-    let s = in_regexp (between_escapes f m k l) in
+class-stays : (c : ScriptClass) (b : ℕ) → is_fine c true ≡ true → b == 92 ≡ false → (f : Bool) (m : List ℕ) (k l : ℕ) (z : PartLines) (t : List ScriptEvent) → only_bytes t ≡ true
+    → IsWithin regexp_at (script_reading (feed_class (in_regexp (between_escapes f m k l z)) c b) (script_emits_class (in_regexp (between_escapes f m k l z)) c b t))
+class-stays class.LineEnd b g e f m k l z t h = absurd (no-true g)
+class-stays class.Solidus b g e f m k l z t h = absurd (no-true g)
+class-stays class.OpenBracket b g e f m k l z t h = absurd (no-true g)
+class-stays c b g e f m k l z t h =
+    let s = in_regexp (between_escapes f m k l z) in
     within regexp_at (script_reading (feed_class s c b) (script_emits_class s c b t)) (rw e refl) (rw e h)
 
 none-line : (bs : List ℕ) → leaves regexp_rows (10 ∷ bs) ≡ false
@@ -160,11 +160,11 @@ left-fine b bs h =
     (λ e. absurd (never (b == 91) (byte-apart b bs h 91 none-bracket) e))
 
 byte-stays : (b : ℕ) (bs : List ℕ) → leaves regexp_rows (b ∷ bs) ≡ true → Stays regexp_at (b ∷ [])
-byte-stays b bs h f m k l t g = class-stays (class_of b) b (left-fine b bs h) (byte-apart b bs h 92 none-backslash) f m k l t g
+byte-stays b bs h f m k l z t g = class-stays (class_of b) b (left-fine b bs h) (byte-apart b bs h 92 none-backslash) f m k l z t g
 
 empty-stays : Stays regexp_at empty_expression
 unfolding class_of released held_after
-empty-stays f m k l t h = record { fresh = _; markup = _; bracket = _; literal = _; stands = refl; told = h }
+empty-stays f m k l z t h = record { fresh = _; markup = _; bracket = _; literal = _; lines = _; stands = refl; told = h }
 
 written-stays : (value : List ℕ) → Stays regexp_at (js_regexp value)
 written-stays [] = empty-stays
@@ -226,9 +226,9 @@ written-fine (b ∷ bs) =
 some-written : (value : List ℕ) → js_regexp value ≢ []
 some-written value e = no-true (subst BeginsFine e (written-fine value))
 
-plain-here : (f : Bool) (m : List ℕ) (k l : ℕ) (value : List ℕ) → IsPlainInScript (js_regexp value) (in_regexp (between_escapes f m k l))
-plain-here f m k l value =
-    let is = written-stays value f m k l [] refl in
+plain-here : (f : Bool) (m : List ℕ) (k l : ℕ) (z : PartLines) (value : List ℕ) → IsPlainInScript (js_regexp value) (in_regexp (between_escapes f m k l z))
+plain-here f m k l z value =
+    let is = written-stays value f m k l z [] refl in
     record {
       apart = refl;
       leads = record {
@@ -245,7 +245,7 @@ plain-here f m k l value =
     }
 
 pub regexp-plain : (t : Trail) (value : List ℕ) → IsBetweenEscapes t → IsPlainInScript (js_regexp value) (in_regexp t)
-regexp-plain t value is = between (λ (u : Trail). IsPlainInScript (js_regexp value) (in_regexp u)) (λ f m k l. plain-here f m k l value) t is
+regexp-plain t value is = between (λ (u : Trail). IsPlainInScript (js_regexp value) (in_regexp u)) (λ f m k l z. plain-here f m k l z value) t is
 
 fine-apart : (t : Trail) (bytes : List ℕ) → BeginsFine bytes
     → read_on bytes (script_reading (behind_slash t) []) ≡ read_on bytes (script_reading (in_regexp t) (ScriptByte 47 ∷ RegexpBegins ∷ []))

@@ -7,7 +7,7 @@ use Rattle.js_lexer.specs.Feeding.{feed_class, script_emits_class, script_readin
 use Rattle.js_lexer.specs.Holes.{IsBetweenEscapes}
 use Rattle.js_lexer.specs.Plain.{only_bytes, IsPlainInScript}
 use Rattle.js_lexer.specs.Sanitizers.{string_rows, js_string}
-use Rattle.js_lexer.specs.States.{NoEscape, At, InString, Trail, ScriptState}
+use Rattle.js_lexer.specs.States.{NoEscape, At, InString, PartLines, Trail, ScriptState}
 use Rattle.js_lexer.specs.WhiteSpace.{released, held_after}
 use Rattle.js_lexer.specs.declared.class.ScriptClass.{ScriptClass}
 use Rattle.js_lexer.specs.declared.class.ScriptClass.TheVariants as class
@@ -19,39 +19,39 @@ string_at q = InString q NoEscape
 rows-stay : (q : Bool) → EachWritten (Stays (string_at q)) string_rows
 unfolding class_of released held_after
 rows-stay true = (
-  λ f m k l t h. record { fresh = _; markup = _; bracket = _; literal = _; stands = refl; told = h },
+  λ f m k l z t h. record { fresh = _; markup = _; bracket = _; literal = _; lines = _; stands = refl; told = h },
   (
-    λ f m k l t h. record { fresh = _; markup = _; bracket = _; literal = _; stands = refl; told = h },
+    λ f m k l z t h. record { fresh = _; markup = _; bracket = _; literal = _; lines = _; stands = refl; told = h },
     (
-      λ f m k l t h. record { fresh = _; markup = _; bracket = _; literal = _; stands = refl; told = h },
+      λ f m k l z t h. record { fresh = _; markup = _; bracket = _; literal = _; lines = _; stands = refl; told = h },
       (
-        λ f m k l t h. record { fresh = _; markup = _; bracket = _; literal = _; stands = refl; told = h },
+        λ f m k l z t h. record { fresh = _; markup = _; bracket = _; literal = _; lines = _; stands = refl; told = h },
         (
-          λ f m k l t h. record { fresh = _; markup = _; bracket = _; literal = _; stands = refl; told = h },
+          λ f m k l z t h. record { fresh = _; markup = _; bracket = _; literal = _; lines = _; stands = refl; told = h },
           (
-            λ f m k l t h. record { fresh = _; markup = _; bracket = _; literal = _; stands = refl; told = h },
+            λ f m k l z t h. record { fresh = _; markup = _; bracket = _; literal = _; lines = _; stands = refl; told = h },
             (
-              λ f m k l t h. record { fresh = _; markup = _; bracket = _; literal = _; stands = refl; told = h },
+              λ f m k l z t h. record { fresh = _; markup = _; bracket = _; literal = _; lines = _; stands = refl; told = h },
               (
-                λ f m k l t h. record { fresh = _; markup = _; bracket = _; literal = _; stands = refl; told = h },
+                λ f m k l z t h. record { fresh = _; markup = _; bracket = _; literal = _; lines = _; stands = refl; told = h },
                 (
-                  λ f m k l t h. record { fresh = _; markup = _; bracket = _; literal = _; stands = refl; told = h },
+                  λ f m k l z t h. record { fresh = _; markup = _; bracket = _; literal = _; lines = _; stands = refl; told = h },
                   (
-                    λ f m k l t h. record { fresh = _; markup = _; bracket = _; literal = _; stands = refl; told = h },
+                    λ f m k l z t h. record { fresh = _; markup = _; bracket = _; literal = _; lines = _; stands = refl; told = h },
                     (
-                      λ f m k l t h. record { fresh = _; markup = _; bracket = _; literal = _; stands = refl; told = h },
+                      λ f m k l z t h. record { fresh = _; markup = _; bracket = _; literal = _; lines = _; stands = refl; told = h },
                       (
-                        λ f m k l t h. record { fresh = _; markup = _; bracket = _; literal = _; stands = refl; told = h },
+                        λ f m k l z t h. record { fresh = _; markup = _; bracket = _; literal = _; lines = _; stands = refl; told = h },
                         (
-                          λ f m k l t h. record { fresh = _; markup = _; bracket = _; literal = _; stands = refl; told = h },
+                          λ f m k l z t h. record { fresh = _; markup = _; bracket = _; literal = _; lines = _; stands = refl; told = h },
                           (
-                            λ f m k l t h. record { fresh = _; markup = _; bracket = _; literal = _; stands = refl; told = h },
+                            λ f m k l z t h. record { fresh = _; markup = _; bracket = _; literal = _; lines = _; stands = refl; told = h },
                             (
-                              λ f m k l t h. record { fresh = _; markup = _; bracket = _; literal = _; stands = refl; told = h },
+                              λ f m k l z t h. record { fresh = _; markup = _; bracket = _; literal = _; lines = _; stands = refl; told = h },
                               (
-                                λ f m k l t h. record { fresh = _; markup = _; bracket = _; literal = _; stands = refl; told = h },
+                                λ f m k l z t h. record { fresh = _; markup = _; bracket = _; literal = _; lines = _; stands = refl; told = h },
                                 (
-                                  λ f m k l t h. record { fresh = _; markup = _; bracket = _; literal = _; stands = refl; told = h },
+                                  λ f m k l z t h. record { fresh = _; markup = _; bracket = _; literal = _; lines = _; stands = refl; told = h },
                                   tt,
                                 ),
                               ),
@@ -71,39 +71,39 @@ rows-stay true = (
   ),
 )
 rows-stay false = (
-  λ f m k l t h. record { fresh = _; markup = _; bracket = _; literal = _; stands = refl; told = h },
+  λ f m k l z t h. record { fresh = _; markup = _; bracket = _; literal = _; lines = _; stands = refl; told = h },
   (
-    λ f m k l t h. record { fresh = _; markup = _; bracket = _; literal = _; stands = refl; told = h },
+    λ f m k l z t h. record { fresh = _; markup = _; bracket = _; literal = _; lines = _; stands = refl; told = h },
     (
-      λ f m k l t h. record { fresh = _; markup = _; bracket = _; literal = _; stands = refl; told = h },
+      λ f m k l z t h. record { fresh = _; markup = _; bracket = _; literal = _; lines = _; stands = refl; told = h },
       (
-        λ f m k l t h. record { fresh = _; markup = _; bracket = _; literal = _; stands = refl; told = h },
+        λ f m k l z t h. record { fresh = _; markup = _; bracket = _; literal = _; lines = _; stands = refl; told = h },
         (
-          λ f m k l t h. record { fresh = _; markup = _; bracket = _; literal = _; stands = refl; told = h },
+          λ f m k l z t h. record { fresh = _; markup = _; bracket = _; literal = _; lines = _; stands = refl; told = h },
           (
-            λ f m k l t h. record { fresh = _; markup = _; bracket = _; literal = _; stands = refl; told = h },
+            λ f m k l z t h. record { fresh = _; markup = _; bracket = _; literal = _; lines = _; stands = refl; told = h },
             (
-              λ f m k l t h. record { fresh = _; markup = _; bracket = _; literal = _; stands = refl; told = h },
+              λ f m k l z t h. record { fresh = _; markup = _; bracket = _; literal = _; lines = _; stands = refl; told = h },
               (
-                λ f m k l t h. record { fresh = _; markup = _; bracket = _; literal = _; stands = refl; told = h },
+                λ f m k l z t h. record { fresh = _; markup = _; bracket = _; literal = _; lines = _; stands = refl; told = h },
                 (
-                  λ f m k l t h. record { fresh = _; markup = _; bracket = _; literal = _; stands = refl; told = h },
+                  λ f m k l z t h. record { fresh = _; markup = _; bracket = _; literal = _; lines = _; stands = refl; told = h },
                   (
-                    λ f m k l t h. record { fresh = _; markup = _; bracket = _; literal = _; stands = refl; told = h },
+                    λ f m k l z t h. record { fresh = _; markup = _; bracket = _; literal = _; lines = _; stands = refl; told = h },
                     (
-                      λ f m k l t h. record { fresh = _; markup = _; bracket = _; literal = _; stands = refl; told = h },
+                      λ f m k l z t h. record { fresh = _; markup = _; bracket = _; literal = _; lines = _; stands = refl; told = h },
                       (
-                        λ f m k l t h. record { fresh = _; markup = _; bracket = _; literal = _; stands = refl; told = h },
+                        λ f m k l z t h. record { fresh = _; markup = _; bracket = _; literal = _; lines = _; stands = refl; told = h },
                         (
-                          λ f m k l t h. record { fresh = _; markup = _; bracket = _; literal = _; stands = refl; told = h },
+                          λ f m k l z t h. record { fresh = _; markup = _; bracket = _; literal = _; lines = _; stands = refl; told = h },
                           (
-                            λ f m k l t h. record { fresh = _; markup = _; bracket = _; literal = _; stands = refl; told = h },
+                            λ f m k l z t h. record { fresh = _; markup = _; bracket = _; literal = _; lines = _; stands = refl; told = h },
                             (
-                              λ f m k l t h. record { fresh = _; markup = _; bracket = _; literal = _; stands = refl; told = h },
+                              λ f m k l z t h. record { fresh = _; markup = _; bracket = _; literal = _; lines = _; stands = refl; told = h },
                               (
-                                λ f m k l t h. record { fresh = _; markup = _; bracket = _; literal = _; stands = refl; told = h },
+                                λ f m k l z t h. record { fresh = _; markup = _; bracket = _; literal = _; lines = _; stands = refl; told = h },
                                 (
-                                  λ f m k l t h. record { fresh = _; markup = _; bracket = _; literal = _; stands = refl; told = h },
+                                  λ f m k l z t h. record { fresh = _; markup = _; bracket = _; literal = _; lines = _; stands = refl; told = h },
                                   tt,
                                 ),
                               ),
@@ -124,16 +124,16 @@ rows-stay false = (
 )
 
 class-stays : (q : Bool) (c : ScriptClass) (b : ℕ) → is_fine c false ≡ true → b == 92 ≡ false
-    → (f : Bool) (m : List ℕ) (k l : ℕ) (t : List ScriptEvent) → only_bytes t ≡ true
-    → IsWithin (string_at q) (script_reading (feed_class (in_string q (between_escapes f m k l)) c b) (script_emits_class (in_string q (between_escapes f m k l)) c b t))
-class-stays q class.LineEnd b g e f m k l t h = absurd (no-true g)
-class-stays q class.QuotationMark b g e f m k l t h = absurd (no-true g)
-class-stays q class.Apostrophe b g e f m k l t h = absurd (no-true g)
-class-stays true c b g e f m k l t h =
-    let s = in_string true (between_escapes f m k l) in
+    → (f : Bool) (m : List ℕ) (k l : ℕ) (z : PartLines) (t : List ScriptEvent) → only_bytes t ≡ true
+    → IsWithin (string_at q) (script_reading (feed_class (in_string q (between_escapes f m k l z)) c b) (script_emits_class (in_string q (between_escapes f m k l z)) c b t))
+class-stays q class.LineEnd b g e f m k l z t h = absurd (no-true g)
+class-stays q class.QuotationMark b g e f m k l z t h = absurd (no-true g)
+class-stays q class.Apostrophe b g e f m k l z t h = absurd (no-true g)
+class-stays true c b g e f m k l z t h =
+    let s = in_string true (between_escapes f m k l z) in
     within (string_at true) (script_reading (feed_class s c b) (script_emits_class s c b t)) (rw e refl) (rw e h)
-class-stays false c b g e f m k l t h =
-    let s = in_string false (between_escapes f m k l) in
+class-stays false c b g e f m k l z t h =
+    let s = in_string false (between_escapes f m k l z) in
     within (string_at false) (script_reading (feed_class s c b) (script_emits_class s c b t)) (rw e refl) (rw e h)
 
 none-line : (bs : List ℕ) → leaves string_rows (10 ∷ bs) ≡ false
@@ -162,11 +162,11 @@ byte-stays q b bs h =
     let fine =
     byte-fine false b (apart 10 none-line) (apart 13 none-return)
     (λ e. absurd (never (b == 34) (apart 34 none-double) e)) (λ e. absurd (never (b == 39) (apart 39 none-quote) e)) (λ e. refl) (λ e. refl) (λ e. refl) in
-    λ f m k l t g. class-stays q (class_of b) b fine (apart 92 none-backslash) f m k l t g
+    λ f m k l z t g. class-stays q (class_of b) b fine (apart 92 none-backslash) f m k l z t g
 
-plain-here : (q f : Bool) (m : List ℕ) (k l : ℕ) (value : List ℕ) → IsPlainInScript (js_string value) (in_string q (between_escapes f m k l))
-plain-here q f m k l value =
-    let is = escaped-stays (string_at q) string_rows (rows-stay q) (byte-stays q) 0 value f m k l [] refl in
+plain-here : (q f : Bool) (m : List ℕ) (k l : ℕ) (z : PartLines) (value : List ℕ) → IsPlainInScript (js_string value) (in_string q (between_escapes f m k l z))
+plain-here q f m k l z value =
+    let is = escaped-stays (string_at q) string_rows (rows-stay q) (byte-stays q) 0 value f m k l z [] refl in
     record {
       apart = refl;
       leads = record {
@@ -183,4 +183,4 @@ plain-here q f m k l value =
     }
 
 pub string-plain : (q : Bool) (t : Trail) (value : List ℕ) → IsBetweenEscapes t → IsPlainInScript (js_string value) (in_string q t)
-string-plain q t value is = between (λ (u : Trail). IsPlainInScript (js_string value) (in_string q u)) (λ f m k l. plain-here q f m k l value) t is
+string-plain q t value is = between (λ (u : Trail). IsPlainInScript (js_string value) (in_string q u)) (λ f m k l z. plain-here q f m k l z value) t is

@@ -10,7 +10,7 @@ use Rattle.js_lexer.specs.States.{NoEscape, AfterBackslash, AfterX, AfterX3, Aft
 use Rattle.js_lexer.specs.Steps.{script_next}
 use Rattle.js_lexer.specs.WhiteSpace.{ClassedByte, classed, classed_as, released, held_after}
 use Rattle.js_lexer.specs.Written.{is_text, is_taken_at, is_slash, with_escape}
-use Rattle.js_lexer.specs.WrittenLaws.{WrittenReadsAs, IsOpenText, IsBeforeSlash, IsBehindBlank, blank, line_end, ScriptWrittenLaws}
+use Rattle.js_lexer.specs.WrittenLaws.{WrittenReadsAs, IsOpenText, IsBeforeSlash, IsBehindBlank, blank, line_end}
 use Rattle.js_lexer.specs.declared.class.ScriptClass.{ScriptClass}
 use Rattle.js_lexer.specs.declared.class.ScriptClass.TheVariants as class
 use Rattle.js_lexer.specs.declared.sense.Sense.{Sense}
@@ -25,11 +25,11 @@ byte-read b r p h = record {
   told = ap (script_emits p.state b) h.told ∙ same-told r.state.literals p.state.literals r.state.held p.state.held r.state.at p.state.at (class_of b) b r.told h.same.literals h.same.held h.same.at;
 }
 
-bytes-read : (bs : List ℕ) (r p : ScriptReading) → WrittenReadsAs r p → WrittenReadsAs (read_on bs r) (read_on bs p)
+pub bytes-read : (bs : List ℕ) (r p : ScriptReading) → WrittenReadsAs r p → WrittenReadsAs (read_on bs r) (read_on bs p)
 bytes-read [] r p h = h
 bytes-read (b ∷ bs) r p h = bytes-read bs (read_on (b ∷ []) r) (read_on (b ∷ []) p) (byte-read b r p h)
 
-same-then : (u v w : ScriptState) → IsSame u v → IsSame v w → IsSame u w
+pub same-then : (u v w : ScriptState) → IsSame u v → IsSame v w → IsSame u w
 same-then u v w s r = record { literals = r.literals ∙ s.literals; held = r.held ∙ s.held; at = r.at ∙ s.at }
 
 reads-then : (r p q : ScriptReading) → WrittenReadsAs r p → WrittenReadsAs p q → WrittenReadsAs r q
@@ -179,20 +179,20 @@ taken-less-than fs (LineComment s) held trail t i o = absurd (true≢false (sym 
 taken-less-than fs (BlockComment s star) held trail t i o = absurd (true≢false (sym i))
 taken-less-than fs TooDeep held trail t i o = absurd (true≢false (sym i))
 
-word-reads : (bs : List ℕ) (r p : ScriptReading) → WrittenReadsAs r p → IsOpenText r.state → WrittenReadsAs (read_on (60 ∷ bs) r) (read_on (with_escape (60 ∷ bs)) p)
+pub word-reads : (bs : List ℕ) (r p : ScriptReading) → WrittenReadsAs r p → IsOpenText r.state → WrittenReadsAs (read_on (60 ∷ bs) r) (read_on (with_escape (60 ∷ bs)) p)
 word-reads bs r p h o = bytes-read bs (read_on (60 ∷ []) r) (read_on (codes "\\x3C") p)
     (reads-then (read_on (60 ∷ []) r) (read_on (codes "\\x3C") r) (read_on (codes "\\x3C") p)
     (less-than r.state.literals r.state.at r.state.held r.state.trail r.told o.text o.free)
     (bytes-read (codes "\\x3C") r p h))
 
-escaped-reads : (bs : List ℕ) (r p : ScriptReading) → WrittenReadsAs r p → IsOpenText r.state → WrittenReadsAs (read_on (92 ∷ 60 ∷ bs) r) (read_on (with_escape (60 ∷ bs)) p)
+pub escaped-reads : (bs : List ℕ) (r p : ScriptReading) → WrittenReadsAs r p → IsOpenText r.state → WrittenReadsAs (read_on (92 ∷ 60 ∷ bs) r) (read_on (with_escape (60 ∷ bs)) p)
 escaped-reads bs r p h o = bytes-read bs (read_on (92 ∷ 60 ∷ []) r) (read_on (codes "\\x3C") p)
     (reads-then (read_on (92 ∷ 60 ∷ []) r) (read_on (codes "\\x3C") r) (read_on (codes "\\x3C") p)
     (taken-less-than r.state.literals r.state.at r.state.held r.state.trail r.told o.text o.free)
     (bytes-read (codes "\\x3C") r p h))
 
 -- A slash that may begin a comment, or a blank in its place.
-abbrev blank_class : Bool → ScriptClass
+abbrev pub blank_class : Bool → ScriptClass
 blank_class false = class.Space
 blank_class true = class.LineEnd
 
@@ -207,7 +207,7 @@ pub record BlankFor (s : Sense) (fs : List ℕ) (a : At) (k : Bool) (b : ℕ) (t
   pub leads : script_next fs a (blank_class k) b ≡ point [] (Code s)
   pub tells : tells fs a (blank_class k) b t ≡ tells fs a class.Solidus 47 t
 
-slash-blank : (fs : List ℕ) (a : At) (s : Sense) (k : Bool) (b : ℕ) (t : List ScriptEvent) → script_next fs a class.Solidus 47 ≡ point [] (Slash s) → BlankFor s fs a k b t
+pub slash-blank : (fs : List ℕ) (a : At) (s : Sense) (k : Bool) (b : ℕ) (t : List ScriptEvent) → script_next fs a class.Solidus 47 ≡ point [] (Slash s) → BlankFor s fs a k b t
 slash-blank [] (Code r) s false b t e = record { leads = ap (λ (p : ScriptPoint). point [] (Code (slash_sense p.at))) e; tells = refl }
 slash-blank [] (Code r) s true b t e = record { leads = ap (λ (p : ScriptPoint). point [] (Code (slash_sense p.at))) e; tells = refl }
 slash-blank (n ∷ fs) (Code r) s k b t e = absurd (no-more n fs (ap (λ (p : ScriptPoint). p.literals) e))
@@ -260,7 +260,7 @@ slash-blank fs (InTemplate AfterCarriageReturn true) s k b t e = absurd (true≢
 slash-blank fs (InTemplate AfterCarriageReturn false) s k b t e = absurd (true≢false (sym (ap (λ (p : ScriptPoint). is_slash p.at) e)))
 
 -- with what is held back before it
-abbrev with_held : Bool → List ℕ → ScriptClass → ℕ → List ClassedByte
+abbrev pub with_held : Bool → List ℕ → ScriptClass → ℕ → List ClassedByte
 with_held true held c b = classed_as class.Letter held ++ classed c b ∷ []
 with_held false held c b = classed c b ∷ []
 
@@ -268,7 +268,7 @@ points-end : (xs : List ClassedByte) (y : ClassedByte) (p : ScriptPoint) → poi
 points-end [] y p = refl
 points-end (x ∷ xs) y p = points-end xs y (script_next p.literals p.at x.class x.byte)
 
-tells-end : (xs : List ClassedByte) (y : ClassedByte) (p : ScriptPoint) (t : List ScriptEvent) → tells_all (xs ++ y ∷ []) p t ≡ tells (points xs p).literals (points xs p).at y.class y.byte (tells_all xs p t)
+pub tells-end : (xs : List ClassedByte) (y : ClassedByte) (p : ScriptPoint) (t : List ScriptEvent) → tells_all (xs ++ y ∷ []) p t ≡ tells (points xs p).literals (points xs p).at y.class y.byte (tells_all xs p t)
 tells-end [] y p t = refl
 tells-end (x ∷ xs) y p t = tells-end xs y (script_next p.literals p.at x.class x.byte) (tells p.literals p.at x.class x.byte t)
 
@@ -289,12 +289,12 @@ held-tells true held p s k b t e =
 held-tells false held p s k b t e = (slash-blank p.literals p.at s k b t e).tells
 
 -- the bytes: a slash, a space, and the ends of lines
-abbrev blank_byte : Bool → Bool → ℕ
+abbrev pub blank_byte : Bool → Bool → ℕ
 blank_byte false x = 32
 blank_byte true false = 13
 blank_byte true true = 10
 
-read-slash : (x : Bool) (held : List ℕ) → read_at x held (class_of 47) 47 ≡ with_held x held class.Solidus 47
+pub read-slash : (x : Bool) (held : List ℕ) → read_at x held (class_of 47) 47 ≡ with_held x held class.Solidus 47
 unfolding class_of released
 read-slash true held = refl
 read-slash false held = refl
@@ -308,7 +308,7 @@ read-blank true false false held = refl
 read-blank true true true held = refl
 read-blank true true false held = refl
 
-none-held : (k l x : Bool) (held : List ℕ) → held_at x held (blank_byte k l) ≡ []
+pub none-held : (k l x : Bool) (held : List ℕ) → held_at x held (blank_byte k l) ≡ []
 unfolding held_after
 none-held false l true held = refl
 none-held false l false held = refl
@@ -317,18 +317,18 @@ none-held true false false held = refl
 none-held true true true held = refl
 none-held true true false held = refl
 
-none-held-by-slash : (x : Bool) (held : List ℕ) → held_at x held 47 ≡ []
+pub none-held-by-slash : (x : Bool) (held : List ℕ) → held_at x held 47 ≡ []
 unfolding held_after
 none-held-by-slash true held = refl
 none-held-by-slash false held = refl
 
-blank-leads : (k l : Bool) (s : Sense) (v : ScriptState) → IsBeforeSlash s v → point_of (feed_script v (blank_byte k l)) ≡ point [] (Code s)
+pub blank-leads : (k l : Bool) (s : Sense) (v : ScriptState) → IsBeforeSlash s v → point_of (feed_script v (blank_byte k l)) ≡ point [] (Code s)
 blank-leads k l s v e =
     let x = tells_white_apart v.at in
     ap (λ (xs : List ClassedByte). points xs (point_of v)) (read-blank k l x v.held)
     ∙ held-leads x v.held (point_of v) s k (blank_byte k l) (sym (ap (λ (xs : List ClassedByte). points xs (point_of v)) (read-slash x v.held)) ∙ e)
 
-blank-tells : (k l : Bool) (s : Sense) (v : ScriptState) (t : List ScriptEvent) → IsBeforeSlash s v → script_emits v (blank_byte k l) t ≡ script_emits v 47 t
+pub blank-tells : (k l : Bool) (s : Sense) (v : ScriptState) (t : List ScriptEvent) → IsBeforeSlash s v → script_emits v (blank_byte k l) t ≡ script_emits v 47 t
 blank-tells k l s v t e =
     let x = tells_white_apart v.at in
     ap (λ (xs : List ClassedByte). tells_all xs (point_of v) t) (read-blank k l x v.held)
@@ -348,10 +348,10 @@ star-tells sense.Re t = refl
 star-tells sense.Div t = refl
 star-tells sense.Brace t = refl
 
-opens-comment : (fs held : List ℕ) (a : At) (s : Sense) → fs ≡ [] → held ≡ [] → a ≡ Slash s → point_after fs held a (class_of 42) 42 ≡ point [] (BlockComment s false)
+pub opens-comment : (fs held : List ℕ) (a : At) (s : Sense) → fs ≡ [] → held ≡ [] → a ≡ Slash s → point_after fs held a (class_of 42) 42 ≡ point [] (BlockComment s false)
 opens-comment fs held a s e f g = rw (e, f, g) (star-leads s)
 
-opens-told : (fs held : List ℕ) (a : At) (s : Sense) (t : List ScriptEvent) → fs ≡ [] → held ≡ [] → a ≡ Slash s → told_after fs held a (class_of 42) 42 t ≡ t
+pub opens-told : (fs held : List ℕ) (a : At) (s : Sense) (t : List ScriptEvent) → fs ≡ [] → held ≡ [] → a ≡ Slash s → told_after fs held a (class_of 42) 42 t ≡ t
 opens-told fs held a s t e f g = rw (e, f, g) (star-tells s t)
 
 blank-begins : (k l : Bool) (s : Sense) (r p : ScriptReading) → WrittenReadsAs r p → IsBeforeSlash s r.state → IsBehindBlank s (read_on (codes "/*") r) (read_on (blank_byte k l ∷ []) p)
@@ -377,7 +377,7 @@ comment-tells fs held a s star c b t e = rw (ap (λ (q : ScriptPoint). q.literal
 comment-holds : (held : List ℕ) (a : At) (s : Sense) (star : Bool) (b : ℕ) → a ≡ BlockComment s star → held_at (tells_white_apart a) held b ≡ []
 comment-holds held a s star b e = rw e refl
 
-comment-goes : (s : Sense) (b : ℕ) (star : Bool) (r p : ScriptReading) → IsBehindBlank s r p → point_of (feed_script r.state b) ≡ point [] (BlockComment s star) → IsBehindBlank s (read_on (b ∷ []) r) p
+pub comment-goes : (s : Sense) (b : ℕ) (star : Bool) (r p : ScriptReading) → IsBehindBlank s r p → point_of (feed_script r.state b) ≡ point [] (BlockComment s star) → IsBehindBlank s (read_on (b ∷ []) r) p
 comment-goes s b star r p h e = record {
   star = star;
   comment = e;
@@ -423,7 +423,7 @@ blank-again k l s r p h =
       told = again-tells k l p.state.literals p.state.held p.state.at s p.told h.outside h.held h.code ∙ h.told;
     }
 
-comment-ends : (s : Sense) (r p : ScriptReading) → IsBehindBlank s r p → point_of (feed_script r.state 47) ≡ point [] (Code s) → WrittenReadsAs (read_on (codes "/") r) p
+pub comment-ends : (s : Sense) (r p : ScriptReading) → IsBehindBlank s r p → point_of (feed_script r.state 47) ≡ point [] (Code s) → WrittenReadsAs (read_on (codes "/") r) p
 comment-ends s r p h e = record {
   same = record {
     literals = h.outside ∙ sym (ap (λ (q : ScriptPoint). q.literals) e);
@@ -434,11 +434,11 @@ comment-ends s r p h e = record {
 }
 
 -- A line comment, to the end of its line.
-letters-stay : (held : List ℕ) (s : Sense) → points (classed_as class.Letter held) (point [] (LineComment s)) ≡ point [] (LineComment s)
+pub letters-stay : (held : List ℕ) (s : Sense) → points (classed_as class.Letter held) (point [] (LineComment s)) ≡ point [] (LineComment s)
 letters-stay [] s = refl
 letters-stay (b ∷ held) s = letters-stay held s
 
-letters-silent : (held : List ℕ) (s : Sense) (t : List ScriptEvent) → tells_all (classed_as class.Letter held) (point [] (LineComment s)) t ≡ t
+pub letters-silent : (held : List ℕ) (s : Sense) (t : List ScriptEvent) → tells_all (classed_as class.Letter held) (point [] (LineComment s)) t ≡ t
 letters-silent [] s t = refl
 letters-silent (b ∷ held) s t = letters-silent held s t
 
@@ -476,27 +476,15 @@ line-ends l s r p q h e f g =
       told = n.told ∙ blank-tells true l s r.state r.told e ∙ sym g ∙ sym (line-told l q.state.literals q.state.held q.state.at s q.told f);
     }
 
-begins-as : (line : Bool) (s : Sense) (r p : ScriptReading) → WrittenReadsAs r p → IsBeforeSlash s r.state → IsBehindBlank s (read_on (codes "/*") r) (read_on (blank line) p)
+pub begins-as : (line : Bool) (s : Sense) (r p : ScriptReading) → WrittenReadsAs r p → IsBeforeSlash s r.state → IsBehindBlank s (read_on (codes "/*") r) (read_on (blank line) p)
 begins-as false s r p h e = blank-begins false true s r p h e
 begins-as true s r p h e = blank-begins true true s r p h e
 
-again-as : (line : Bool) (s : Sense) (r p : ScriptReading) → IsBehindBlank s r p → IsBehindBlank s r (read_on (blank line) p)
+pub again-as : (line : Bool) (s : Sense) (r p : ScriptReading) → IsBehindBlank s r p → IsBehindBlank s r (read_on (blank line) p)
 again-as false s r p h = blank-again false true s r p h
 again-as true s r p h = blank-again true true s r p h
 
-line-as : (line : Bool) (s : Sense) (r p q : ScriptReading) → WrittenReadsAs r p → IsBeforeSlash s r.state → point_of q.state ≡ point [] (LineComment s) → q.told ≡ script_emits r.state 47 r.told
+pub line-as : (line : Bool) (s : Sense) (r p q : ScriptReading) → WrittenReadsAs r p → IsBeforeSlash s r.state → point_of q.state ≡ point [] (LineComment s) → q.told ≡ script_emits r.state 47 r.told
     → WrittenReadsAs (read_on (line_end line) q) (read_on (line_end line) p)
 line-as false s r p q h e f g = line-ends false s r p q h e f g
 line-as true s r p q h e f g = line-ends true s r p q h e f g
-
-pub written-keeps : ScriptWrittenLaws
-written-keeps = record {
-  bytes = bytes-read;
-  word = word-reads;
-  escaped = escaped-reads;
-  begins = begins-as;
-  goes = comment-goes;
-  again = again-as;
-  ends = comment-ends;
-  line = line-as;
-}

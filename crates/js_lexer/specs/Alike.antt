@@ -1,5 +1,5 @@
 -- When a page, in one state of a script, reads the texts of a path as the path does, in another.
-use Rattle.std.specs.Prelude.{◌≡◌, ◌⊎◌, true, false, []}
+use Rattle.std.specs.Prelude.{◌≡◌, ◌⊎◌, ℕ, zero, suc, Bool, true, false, []}
 use Rattle.js_lexer.specs.Holes.{as_page}
 use Rattle.js_lexer.specs.States.{BlockComment, ScriptState}
 use Rattle.js_lexer.specs.declared.sense.Sense.{Sense}
@@ -21,10 +21,15 @@ pub record IsPassed (v w : ScriptState) : Type 0 where
   pub path_held : v.held ≡ []
   pub page_held : w.held ≡ []
 
--- Of the trails this matters: the escape that is open in a string or a regular expression, with which the bytes of no hole may go on.
+-- Of the trails this matters: the escape that is open in a string or a regular expression, with which the bytes of no hole may go on. Of a `\u{` it
+-- matters that it is open, and not how many bytes it has: what is written of a `<` has more.
+abbrev pub is_open_brace : ℕ → Bool
+is_open_brace zero = false
+is_open_brace (suc n) = true
+
 pub record HaveSameEscape (v w : ScriptState) : Type 0 where
   pub escape : w.trail.escape ≡ v.trail.escape
-  pub brace : w.trail.brace ≡ v.trail.brace
+  pub brace : is_open_brace w.trail.brace ≡ is_open_brace v.trail.brace
 
 abbrev pub ScriptsAlike : ScriptState → ScriptState → Type 0
 ScriptsAlike v w = HaveSameEscape v w × (IsSame v w ⊎ IsPassed v w)

@@ -2,7 +2,7 @@
 use Rattle.std.specs.Prelude.{◌≡◌, ◌⊎◌, Bool, true, false, List, []}
 use Rattle.js_lexer.specs.Events.{ScriptEvent}
 use Rattle.js_lexer.specs.Feeding.{tells_held_slash, released_point, emits_released}
-use Rattle.js_lexer.specs.States.{NoEscape, At, Code, Slash, LineComment, BlockComment, InString, InRegexp, InTemplate, TooDeep, Trail, ScriptState}
+use Rattle.js_lexer.specs.States.{NoEscape, At, Code, Slash, LineComment, BlockComment, InString, InRegexp, InTemplate, TooDeep, NoLineYet, Trail, ScriptState}
 use Rattle.js_lexer.specs.declared.sense.Sense.{Sense}
 use Rattle.js_lexer.specs.declared.sense.Sense.TheVariants as sense
 
@@ -40,10 +40,18 @@ hole_at TooDeep = TooDeep
 hole_at a = Code sense.Div
 
 abbrev pub fresh_trail : Trail → Trail
-fresh_trail t = record { fresh = true; markup = t.markup; escape = t.escape; brace = t.brace; bracket = t.bracket; literal = t.literal }
+fresh_trail t = record {
+  fresh = true;
+  markup = t.markup;
+  escape = t.escape;
+  brace = t.brace;
+  bracket = t.bracket;
+  literal = t.literal;
+  lines = NoLineYet [];
+}
 
 abbrev pub holed_trail : Trail → Trail
-holed_trail t = record { fresh = true; markup = []; escape = []; brace = 0; bracket = 0; literal = t.literal }
+holed_trail t = record { fresh = true; markup = []; escape = []; brace = 0; bracket = 0; literal = t.literal; lines = NoLineYet [] }
 
 abbrev pub script_after_hole : ScriptState → ScriptState
 script_after_hole s = (let r = script_settled s in record { literals = r.literals; at = hole_at r.at; held = []; trail = holed_trail r.trail })

@@ -8,6 +8,7 @@ pub mod Feeding
 pub mod Holes
 pub mod Laws
 pub mod Nodes
+pub mod PageScripts
 pub mod Plain
 pub mod Refusals
 pub mod Sanitizers

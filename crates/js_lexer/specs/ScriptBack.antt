@@ -1,5 +1,5 @@
 -- What the sanitizers promise of their bytes: they are plain in their place, and read back there as the text, or as the datum.
-use Rattle.std.specs.Prelude.{◌≡◌, ⊤, ℕ, ℤ, ◌^◌, ◌≤◌, ◌<◌, negsuc, pos, Bool, List, []}
+use Rattle.std.specs.Prelude.{◌≡◌, ⊤, ℕ, ℤ, ◌^◌, ◌<◌, negsuc, pos, Bool, List, []}
 use Rattle.page_datum.specs.Data.{Data, null, truth, int, text, list, dict, DataList, no_items, item, DataDict, no_entries, entry, HasAscendingKeys}
 use Rattle.js_lexer.specs.BackLaws.{in_string, in_regexp, behind_slash, in_code, TakesData}
 use Rattle.js_lexer.specs.Feeding.{script_reading, read_on}

@@ -36,13 +36,19 @@ pub data At : Type 0 where
   -- behind the backquote of a literal that nests too deep
   TooDeep : At
 
--- What the refusals of a template's text need besides. The reading of tokens does not depend on it, and two readings with different trails
--- tell the same.
+-- Of the part of a block comment that stands in one node: the end of a line is in it; or none yet, and these bytes may begin U+2028 or U+2029.
+pub data PartLines : Type 0 where
+  HasLine : PartLines
+  NoLineYet : List ℕ → PartLines
+
+-- What the refusals of a template's text, and the writing of it in an element, need besides. The reading of tokens does not depend on it, and two readings
+-- with different trails tell the same.
 -- - The node begins here, on a path.
 -- - The bytes since a `<`, a `#` or a `-` of code, in lower case, as long as they begin `<!--`, `</script`, `#!` or `-->`; in a template literal
 --   `<script` too.
 -- - The bytes of an escape that has begun, in a string or a regular expression.
 -- - How many bytes have been read since these began, with the first: a `\u{` that is not closed, a `[`, the outermost template literal.
+-- - Of a block comment, whether the part of it in this node has the end of a line.
 pub record Trail : Type 0 where
   pub fresh : Bool
   pub markup : List ℕ
@@ -50,9 +56,10 @@ pub record Trail : Type 0 where
   pub brace : ℕ
   pub bracket : ℕ
   pub literal : ℕ
+  pub lines : PartLines
 
 abbrev pub no_trail : Trail
-no_trail = record { fresh = false; markup = []; escape = []; brace = 0; bracket = 0; literal = 0 }
+no_trail = record { fresh = false; markup = []; escape = []; brace = 0; bracket = 0; literal = 0; lines = NoLineYet [] }
 
 -- Where the reading of tokens stands. Each template literal in whose code it is, or in whose characters, has how many braces are open in its
 -- code; the innermost comes first.

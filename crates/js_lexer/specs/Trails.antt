@@ -1,8 +1,8 @@
 -- The trail of a state: what refusals need of the bytes that were read (see `Trail`).
-use Rattle.std.specs.Prelude.{ℕ, zero, suc, ◌==◌, ◌||◌, ◌&&◌, nat_le, nat_eq, not, Bool, true, false, bytes_eq, codes, List, [], ◌∷◌, ◌++◌, length, if◌then◌else◌}
+use Rattle.std.specs.Prelude.{ℕ, zero, suc, ◌==◌, ◌||◌, ◌&&◌, nat_le, nat_eq, not, Bool, true, false, bytes_eq, codes, encode_utf8, List, [], ◌∷◌, ◌++◌, length, if◌then◌else◌}
 use Rattle.std.specs.Char.{is_ascii_digit, is_ascii_hexdigit, to_ascii_lowercase}
 use Rattle.std.specs.List.{list_all, list_any, starts_with}
-use Rattle.js_lexer.specs.States.{At, Code, Word, Number, Pluses, Minuses, Slash, LineComment, BlockComment, InString, InRegexp, Trail, ScriptPoint}
+use Rattle.js_lexer.specs.States.{At, Code, Word, Number, Pluses, Minuses, Slash, LineComment, BlockComment, InString, InRegexp, PartLines, HasLine, NoLineYet, Trail, ScriptPoint}
 use Rattle.js_lexer.specs.declared.sense.Sense.TheVariants as sense
 
 abbrev pub is_empty : {A : Type 0} → List A → Bool
@@ -99,6 +99,27 @@ abbrev pub literal_after : List ℕ → ℕ → ℕ
 literal_after [] n = 0
 literal_after (m ∷ fs) n = suc n
 
+-- The end of a line in a comment (ECMA-262, section 12.3): LF, CR, U+2028, U+2029.
+abbrev pub line_ends : List (List ℕ)
+line_ends = codes "\n" ∷ codes "\r" ∷ encode_utf8 0x2028 ∷ encode_utf8 0x2029 ∷ []
+
+abbrev pub lines_of : List ℕ → PartLines
+lines_of bytes =
+    if list_any (bytes_eq bytes) line_ends then HasLine
+    else (if list_any (λ end. starts_with nat_eq end bytes) line_ends then NoLineYet bytes else NoLineYet [])
+
+abbrev pub may_end_line : List ℕ → Bool
+may_end_line bytes = list_any (λ end. starts_with nat_eq end bytes) line_ends
+
+abbrev pub lines_with : PartLines → ℕ → PartLines
+lines_with HasLine b = HasLine
+lines_with (NoLineYet begun) b = if may_end_line (begun ++ b ∷ []) then lines_of (begun ++ b ∷ []) else lines_of (b ∷ [])
+
+-- by where the byte has led
+abbrev pub lines_after : At → PartLines → ℕ → PartLines
+lines_after (BlockComment s star) lines b = lines_with lines b
+lines_after a lines b = NoLineYet []
+
 -- The trail after a byte that has led from one point to another. The first argument says whether the byte released anything.
 abbrev pub next_trail : Bool → Trail → ScriptPoint → ScriptPoint → ℕ → Trail
 next_trail some t from to b = record {
@@ -108,4 +129,5 @@ next_trail some t from to b = record {
   brace = brace_after to.at t.escape t.brace b;
   bracket = bracket_after to.at t.bracket;
   literal = literal_after to.literals t.literal;
+  lines = lines_after to.at t.lines b;
 }

@@ -1,8 +1,10 @@
 -- What is written of a template's text in a script element reads as the text does: word by word, and comment by comment.
 use Rattle.std.specs.Prelude.{◌≡◌, ℕ, Bool, true, false, codes, List, [], ◌∷◌}
 use Rattle.js_lexer.specs.Alike.{IsSame}
+use Rattle.js_lexer.specs.Events.{ScriptEvent}
 use Rattle.js_lexer.specs.Feeding.{feed_script, script_emits, ScriptReading, read_on, point_of}
 use Rattle.js_lexer.specs.Holes.{paged, as_page}
+use Rattle.js_lexer.specs.PageScripts.{ScriptStandsLaws}
 use Rattle.js_lexer.specs.States.{Code, Slash, LineComment, BlockComment, point, ScriptState}
 use Rattle.js_lexer.specs.Written.{is_text, is_taken_at, with_escape}
 use Rattle.js_lexer.specs.declared.sense.Sense.{Sense}
@@ -44,6 +46,7 @@ line_end true = codes "\n"
 -- - A space or a line feed is written for a block comment: behind it the page stands as if the comment had ended there (`begins`), while the comment
 --   goes on (`goes`), behind the blank of another part (`again`), and when it ends (`ends`).
 -- - Nothing is written of a line comment: where its line ends, the page comes to where the path comes to (`line`).
+-- - So a page to which each byte, word and end of a node is written stands for the path behind each of them (`stands`).
 pub record ScriptWrittenLaws : Type 0 where
   pub bytes : (bs : List ℕ) (r p : ScriptReading) → WrittenReadsAs r p → WrittenReadsAs (read_on bs r) (read_on bs p)
   pub word : (bs : List ℕ) (r p : ScriptReading) → WrittenReadsAs r p → IsOpenText r.state → WrittenReadsAs (read_on (60 ∷ bs) r) (read_on (with_escape (60 ∷ bs)) p)
@@ -53,3 +56,4 @@ pub record ScriptWrittenLaws : Type 0 where
   pub again : (line : Bool) (s : Sense) (r p : ScriptReading) → IsBehindBlank s r p → IsBehindBlank s r (read_on (blank line) p)
   pub ends : (s : Sense) (r p : ScriptReading) → IsBehindBlank s r p → point_of (feed_script r.state 47) ≡ point [] (Code s) → WrittenReadsAs (read_on (codes "/") r) p
   pub line : (line : Bool) (s : Sense) (r p q : ScriptReading) → WrittenReadsAs r p → IsBeforeSlash s r.state → point_of q.state ≡ point [] (LineComment s) → q.told ≡ script_emits r.state 47 r.told → WrittenReadsAs (read_on (line_end line) q) (read_on (line_end line) p)
+  pub stands : ScriptStandsLaws ScriptEvent (λ e. e)

@@ -10,7 +10,8 @@ pub fn scripts_read_alike()
 {}
 
 /// In a script element, what is written in the place of a `<` of a token, of a block comment and of a line comment leads a page to where the text
-/// leads the path, and tells the same. A theorem; the call does nothing at run time.
+/// leads the path, and tells the same. So a page to which is written what is to be of each byte, word and end of a node stands for the path. A
+/// theorem; the call does nothing at run time.
 pub fn what_is_written_reads_alike()
     ensures { ScriptWrittenLaws }
 {}

@@ -1,5 +1,5 @@
 -- The first character of a text, on one path.
-use Rattle.std.proofs.Common.{◌≡◌, ◌∙◌, ℕ, ◌==◌, Bool, true, false, not, ◌&&◌, ◌||◌, nat_lt, codes, List, [], ◌∷◌, ◌++◌, Option, Some, None, length, if◌then◌else◌, refl, sym, ap, subst, arith}
+use Rattle.std.proofs.Common.{◌≡◌, ◌∙◌, ℕ, ◌==◌, Bool, true, false, not, ◌&&◌, ◌||◌, nat_lt, codes, List, [], ◌∷◌, Option, Some, None, length, if◌then◌else◌, refl, sym, ap, subst, arith}
 use Rattle.std.proofs.lemmas.Bool.{eqb-true}
 use Rattle.std.proofs.lemmas.Bool.Decides.{nat_tests}
 use Rattle.std.specs.Char.{to_ascii_lowercase}
@@ -8,9 +8,9 @@ use Rattle.js_lexer.specs.Feeding.{tells_white_apart, read_at, held_at, points, 
 use Rattle.js_lexer.specs.Holes.{script_after_cut, script_after_hole}
 use Rattle.js_lexer.specs.Refusals.{Cause, cause, SplitToken, HtmlInScript, first_script_cause, refusal_outside, splits, splits_first, slash_refusal, line_refusal, is_one_of, markup_refusal, unless_in_character, script_refuses, script_refuses_cut, refuses_end}
 use Rattle.js_lexer.specs.Spots.{Spot, script_spot}
-use Rattle.js_lexer.specs.States.{NoEscape, At, Code, Word, Number, Pluses, Minuses, Slash, LineComment, BlockComment, InString, InRegexp, ScriptPoint, point, ScriptState}
+use Rattle.js_lexer.specs.States.{NoEscape, At, Code, Word, Number, Pluses, Minuses, Slash, LineComment, BlockComment, InString, InRegexp, NoLineYet, ScriptPoint, point, ScriptState}
 use Rattle.js_lexer.specs.Steps.{is_word, is_number, script_next}
-use Rattle.js_lexer.specs.Trails.{is_empty, is_markup_code, next_markup, begun_markup, markup_after, escape_after, brace_after, bracket_after, literal_after}
+use Rattle.js_lexer.specs.Trails.{is_empty, is_markup_code, next_markup, begun_markup, markup_after, escape_after, brace_after, bracket_after, literal_after, lines_after}
 use Rattle.js_lexer.specs.WhiteSpace.{ClassedByte, released, released_by, held_after}
 use Rattle.js_lexer.specs.declared.class.ScriptClass.{ScriptClass}
 use Rattle.js_lexer.specs.declared.class.ScriptClass.TheVariants as class
@@ -376,6 +376,7 @@ led some m p h b = record {
     brace = brace_after p.at [] 0 b;
     bracket = bracket_after p.at 0;
     literal = literal_after p.literals 0;
+    lines = lines_after p.at (NoLineYet []) b;
   };
 }
 

@@ -8,6 +8,7 @@ pub mod FirstCharacter
 pub mod KeptAnswers
 pub mod KeptScans
 pub mod KeptWordSteps
+pub mod LineBytes
 pub mod LongEscapes
 pub mod MemberKinds
 pub mod NextSenses

@@ -1,6 +1,6 @@
 -- What the class of a byte says of the byte.
-use Rattle.std.proofs.Common.{◌≡◌, ◌∙◌, ◌⊎◌, inl, inr, ℕ, ◌==◌, ◌≤◌, ◌||◌, ◌&&◌, nat_eq, nat_le, nat_lt, not, Bool, true, false, codes, List, [], ◌∷◌, refl, sym, ap, subst, arith}
-use Rattle.std.proofs.lemmas.Bool.{cases_lt, eqb-true, ne_eqb, agree_below, agree_below_at}
+use Rattle.std.proofs.Common.{◌≡◌, ◌∙◌, inl, inr, ℕ, ◌==◌, ◌≤◌, ◌||◌, ◌&&◌, nat_eq, nat_le, nat_lt, not, Bool, true, false, codes, refl, sym, ap, arith}
+use Rattle.std.proofs.lemmas.Bool.{cases_lt, ne_eqb, agree_below, agree_below_at}
 use Rattle.std.proofs.lemmas.Bool.Decides.{nat_tests}
 use Rattle.std.specs.Char.{is_ascii_digit, is_ascii_alphabetic, to_ascii_lowercase}
 use Rattle.std.specs.List.{list_any}

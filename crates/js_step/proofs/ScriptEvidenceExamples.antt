@@ -1,12 +1,11 @@
 -- Worked examples of what shows that a script is refused, and of where members come from; and what is not so where senses do not fit.
-use Rattle.std.proofs.Common.{◌≡◌, ℕ, true, false, codes, List, [], ◌∷◌, Option, Some, None, refl}
+use Rattle.std.proofs.Common.{◌≡◌, ℕ, true, false, codes, List, [], ◌∷◌, Some, None, refl}
 use Rattle.js_lexer.specs.Classes.{class_of}
-use Rattle.js_lexer.specs.Refusals.{SlashAmbig, SplitToken}
-use Rattle.js_lexer.specs.Spots.{NoTail, WordTail, MinusTail}
+use Rattle.js_lexer.specs.Refusals.{SlashAmbig}
+use Rattle.js_lexer.specs.Spots.{WordTail, MinusTail}
 use Rattle.js_lexer.specs.States.{Slash, no_trail}
 use Rattle.js_lexer.specs.WhiteSpace.{released, held_after}
 use Rattle.js_lexer.specs.declared.sense.Sense.TheVariants as sense
-use Rattle.place_core.specs.declared.js.Js.{Js}
 use Rattle.place_core.specs.declared.js.Js.TheVariants as js
 use Rattle.place_core.specs.declared.member.Member.TheVariants as member
 use Rattle.place_core.specs.declared.senses.Senses.{Senses}

@@ -1,14 +1,14 @@
 -- The scan state of a path in a script.
-use Rattle.std.proofs.Common.{◌≡◌, ◌∙◌, ◌⊎◌, inl, inr, ℕ, zero, suc, ◌==◌, ◌||◌, ◌&&◌, nat_eq, not, Bool, true, false, bytes_eq, codes, nat_lt, length, List, [], ◌∷◌, Option, Some, None, option_map, if◌then◌else◌, refl, sym, ap, subst, arith}
+use Rattle.std.proofs.Common.{◌≡◌, ◌∙◌, inl, inr, ℕ, ◌==◌, ◌||◌, ◌&&◌, nat_eq, Bool, true, false, bytes_eq, codes, nat_lt, length, List, [], ◌∷◌, Option, Some, None, option_map, if◌then◌else◌, refl, sym, ap, subst, arith}
 use Rattle.std.proofs.lemmas.Bool.{eqb-true, ltb-false, and_parts, or_cases}
 use Rattle.std.proofs.lemmas.Slice.Eq.{bytes_eq-Decides}
 use Rattle.std.specs.List.{starts_with}
 use Rattle.js_lexer.specs.Classes.{class_of}
 use Rattle.js_lexer.specs.Feeding.{tells_white_apart, feed_script}
 use Rattle.js_lexer.specs.Holes.{script_after_cut, script_after_hole}
-use Rattle.js_lexer.specs.Refusals.{Cause, first_script_cause, split_refusal, refusal_outside, script_refuses, is_one_of, is_cut_markup, SplitToken, cause, within_escape, cut_refusal_at, escape_refusal, cut_markup_refusal, whole_cut_refusal, unless_in_character, script_refuses_cut, refuses_end}
-use Rattle.js_lexer.specs.Spots.{Spot, CodeSpot, StringSpot, RegexpSpot, LineSpot, BlockSpot, NoTail, WordTail, NumberTail, PlusTail, MinusTail, SlashTail, tail_of, unless_within, spot_at, script_spot, shown_at, spot_before}
-use Rattle.js_lexer.specs.States.{ScriptEscape, NoEscape, AfterBackslash, AfterX, AfterX3, AfterCarriageReturn, At, Code, Word, Number, Pluses, Minuses, Slash, LineComment, BlockComment, InString, InRegexp, InTemplate, TooDeep, Trail, ScriptState, script_start}
+use Rattle.js_lexer.specs.Refusals.{JSTemplate, Cause, first_script_cause, split_refusal, refusal_outside, script_refuses, is_one_of, is_cut_markup, SplitToken, cause, within_escape, cut_refusal_at, escape_refusal, cut_markup_refusal, whole_cut_refusal, unless_in_character, script_refuses_cut}
+use Rattle.js_lexer.specs.Spots.{Spot, CodeSpot, StringSpot, RegexpSpot, LineSpot, BlockSpot, WordTail, NumberTail, PlusTail, MinusTail, SlashTail, tail_of, unless_within, spot_at, script_spot, shown_at, spot_before}
+use Rattle.js_lexer.specs.States.{ScriptEscape, NoEscape, AfterBackslash, AfterX, AfterX3, AfterCarriageReturn, At, Code, Word, Number, Pluses, Minuses, Slash, LineComment, BlockComment, InString, InRegexp, InTemplate, TooDeep, PartLines, HasLine, NoLineYet, Trail, ScriptState}
 use Rattle.js_lexer.specs.Steps.{sense_if_odd}
 use Rattle.js_lexer.specs.Trails.{is_empty}
 use Rattle.js_lexer.specs.Words.{sense_after}
@@ -17,8 +17,8 @@ use Rattle.js_lexer.specs.declared.sense.Sense.TheVariants as sense
 use Rattle.place_core.specs.declared.body.Body.{Body}
 use Rattle.place_core.specs.declared.body.Body.TheVariants as body
 use Rattle.place_core.specs.declared.js.Js.{Js}
-use Rattle.place_core.specs.place.ScriptParts.{script_tails, script_no_tails, script_senses, script_place, is_no_script_escape, may_begin_text_at, is_trail_of_cut, script_may_begin_text, script_body}
-use Rattle.js_step.specs.ScriptScanLaws.{script_alone, script_begun_at, script_alone_before, OneScript, EndsBefore, ends_code, ends_less, ends_hash, ends_word, ends_number, ends_pluses, ends_minuses, ends_minus, ends_two_minuses, ends_regexp_slash, ends_slash, ends_line, ends_block, ends_string, ends_regexp, script_before, IsBeforeText, before_text, OneScriptBefore}
+use Rattle.place_core.specs.place.ScriptParts.{is_new_part, script_tails, script_no_tails, script_senses, script_place, is_no_script_escape, may_begin_text_at, is_trail_of_cut, script_may_begin_text, script_body}
+use Rattle.js_step.specs.ScriptScanLaws.{script_alone, script_alone_before, OneScript, EndsBefore, ends_code, ends_less, ends_hash, ends_word, ends_number, ends_pluses, ends_minuses, ends_minus, ends_two_minuses, ends_regexp_slash, ends_slash, ends_line, ends_block, ends_string, ends_regexp, script_before, IsBeforeText, before_text, OneScriptBefore}
 use Rattle.js_step.specs.ScriptPaths.{script_markup_fits, script_escape_fits, script_trail_fits, is_script_within, is_script_before, script_scanned_if, script_scanned, OneScriptPath, OneScriptPlace, ScriptPathsAreScanned}
 use Rattle.js_step.specs.ScriptScans.{ScriptScan, script_sense_at, script_tail_at, script_star_at, script_scan_start, script_scan_next, script_scan_place, script_shown_at, script_scan_shown, script_at_hole}
 use Rattle.js_step.proofs.FirstCharacter.{scripts-begin-as-one, begun-state, begun-fed, begun-place}
@@ -132,22 +132,38 @@ ends-before TooDeep h m f k = absurd (no-more f)
 zero-is : (n : ℕ) → (n == 0) ≡ true → n ≡ 0
 zero-is n h = eqb-true n 0 h
 
-before-of : (fs : List ℕ) (a : At) (h m e : List ℕ) (f : Bool) (n k l : ℕ) → is_script_before (parts fs a h m e f n k l) ≡ true → IsBeforeText (parts fs a h m e f n k l)
-before-of fs a h m e f n k l i =
-    let t = (parts fs a h m e f n k l).trail in
+-- a state by its parts, with the part of a comment
+abbrev whole-state : List ℕ → At → (h m e : List ℕ) → (f : Bool) → (n k l : ℕ) → PartLines → ScriptState
+whole-state fs a h m e f n k l z = record {
+  literals = fs;
+  at = a;
+  held = h;
+  trail = record { fresh = f; markup = m; escape = e; brace = n; bracket = k; literal = l; lines = z };
+}
+
+new-part-is : (z : PartLines) → is_new_part z ≡ true → z ≡ NoLineYet []
+new-part-is HasLine h = absurd (no-more h)
+new-part-is (NoLineYet begun) h = ap NoLineYet (empty-is begun h)
+
+before-of : (fs : List ℕ) (a : At) (h m e : List ℕ) (f : Bool) (n k l : ℕ) (z : PartLines) → is_script_before (whole-state fs a h m e f n k l z) ≡ true
+    → IsBeforeText (whole-state fs a h m e f n k l z)
+before-of fs a h m e f n k l z i =
+    let t = (whole-state fs a h m e f n k l z).trail in
     let x = and_parts (is_empty fs) ((is_trail_of_cut t && may_begin_text_at a m) && held-fits a h m) i in
     let y = and_parts (is_trail_of_cut t && may_begin_text_at a m) (held-fits a h m) x.1 in
-    let z = and_parts (is_trail_of_cut t) (may_begin_text_at a m) y.0 in
-    let p = and_parts f (is_empty e && (n == 0 && (k == 0 && l == 0))) z.0 in
-    let q = and_parts (is_empty e) (n == 0 && (k == 0 && l == 0)) p.1 in
-    let r = and_parts (n == 0) (k == 0 && l == 0) q.1 in
-    let s = and_parts (k == 0) (l == 0) r.1 in
-    let same : script_before a h m ≡ parts fs a h m e f n k l = λ j.
-    parts (sym (empty-is fs x.0) j) a h m (sym (empty-is e q.0) j) (sym p.0 j) (sym (zero-is n r.0) j) (sym (zero-is k s.0) j) (sym (zero-is l s.1) j) in
-    subst IsBeforeText same (before_text a h m (ends-before a h m z.1 y.1))
+    let w = and_parts (is_trail_of_cut t) (may_begin_text_at a m) y.0 in
+    let p = and_parts f (is_empty e && (n == 0 && (k == 0 && (l == 0 && is_new_part z)))) w.0 in
+    let q = and_parts (is_empty e) (n == 0 && (k == 0 && (l == 0 && is_new_part z))) p.1 in
+    let r = and_parts (n == 0) (k == 0 && (l == 0 && is_new_part z)) q.1 in
+    let s = and_parts (k == 0) (l == 0 && is_new_part z) r.1 in
+    let u = and_parts (l == 0) (is_new_part z) s.1 in
+    let same : script_before a h m ≡ whole-state fs a h m e f n k l z = λ j.
+    whole-state (sym (empty-is fs x.0) j) a h m (sym (empty-is e q.0) j) (sym p.0 j) (sym (zero-is n r.0) j) (sym (zero-is k s.0) j) (sym (zero-is l u.0) j)
+    (sym (new-part-is z u.1) j) in
+    subst IsBeforeText same (before_text a h m (ends-before a h m w.1 y.1))
 
 pub is-before : (v : ScriptState) → is_script_before v ≡ true → IsBeforeText v
-is-before v i = before-of v.literals v.at v.held v.trail.markup v.trail.escape v.trail.fresh v.trail.brace v.trail.bracket v.trail.literal i
+is-before v i = before-of v.literals v.at v.held v.trail.markup v.trail.escape v.trail.fresh v.trail.brace v.trail.bracket v.trail.literal v.trail.lines i
 
 or-true : (x : Bool) → (x || true) ≡ true
 or-true true = refl
@@ -459,9 +475,10 @@ within-cut [] a [] m e f n k l i r =
     let x = and_parts (l == 0) (script_trail_fits a e n k && script_markup_fits a m) i in
     let y = and_parts (script_trail_fits a e n k) (script_markup_fits a m) x.1 in
     let c = cut-here a t y.0 y.1 r in
-    let may = both-true (is_empty e && (n == 0 && (k == 0 && l == 0))) (may_begin_text_at a m)
-    (both-true (is_empty e) (n == 0 && (k == 0 && l == 0)) (ap is_empty c.escape)
-    (both-true (n == 0) (k == 0 && l == 0) (ap (λ (z : ℕ). z == 0) c.brace) (both-true (k == 0) (l == 0) (ap (λ (z : ℕ). z == 0) c.bracket) x.0)))
+    let may = both-true (is_empty e && (n == 0 && (k == 0 && (l == 0 && true)))) (may_begin_text_at a m)
+    (both-true (is_empty e) (n == 0 && (k == 0 && (l == 0 && true))) (ap is_empty c.escape)
+    (both-true (n == 0) (k == 0 && (l == 0 && true)) (ap (λ (z : ℕ). z == 0) c.brace)
+    (both-true (k == 0) (l == 0 && true) (ap (λ (z : ℕ). z == 0) c.bracket) (both-true (l == 0) true x.0 refl))))
     c.may in
     record {
       before = both-true (script_may_begin_text (script_after_cut (parts [] a [] m e f n k l))) true may refl;
@@ -473,8 +490,55 @@ within-cut [] a (z ∷ h) m e f n k l i r = absurd (given _ r)
 within-cut (j ∷ fs) a [] m e f n k l i r = absurd (given _ r)
 within-cut (j ∷ fs) a (z ∷ h) m e f n k l i r = absurd (given _ r)
 
+-- what is refused at the end of a node does not depend on the part of a comment
+abbrev without-part : Trail → Trail
+without-part t = record { fresh = t.fresh; markup = t.markup; escape = t.escape; brace = t.brace; bracket = t.bracket; literal = t.literal; lines = NoLineYet [] }
+
+refusal-without-part : (a : At) (t : Trail) → cut_refusal_at a (without-part t) ≡ cut_refusal_at a t
+refusal-without-part (Code s) t = refl
+refusal-without-part (Word w) t = refl
+refusal-without-part Number t = refl
+refusal-without-part (Pluses odd) t = refl
+refusal-without-part (Minuses odd) t = refl
+refusal-without-part (Slash sense.Re) t = refl
+refusal-without-part (Slash sense.Div) t = refl
+refusal-without-part (Slash sense.Brace) t = refl
+refusal-without-part (LineComment s) t = refl
+refusal-without-part (BlockComment s star) t = refl
+refusal-without-part (InString q e) t = refl
+refusal-without-part (InRegexp true e) t = refl
+refusal-without-part (InRegexp false e) t = refl
+refusal-without-part (InTemplate e d) t = refl
+refusal-without-part TooDeep t = refl
+
+cut-without-part : (v : ScriptState) → unless_in_character v.held (whole_cut_refusal v.literals v.at (without-part v.trail)) ≡ script_refuses_cut v
+cut-without-part v = ap (λ (o : Option Cause). unless_in_character v.held (if is_empty v.literals then o else cause JSTemplate 0 v.trail.literal)) (refusal-without-part v.at v.trail)
+
+-- the place behind the end of a node
+spot-cut : (a : At) (t : Trail) → spot_at a (record { fresh = true; markup = t.markup; escape = t.escape; brace = t.brace; bracket = t.bracket; literal = t.literal; lines = NoLineYet [] }) ≡ spot_at a t
+spot-cut (Code s) t = refl
+spot-cut (Word w) t = refl
+spot-cut Number t = refl
+spot-cut (Pluses odd) t = refl
+spot-cut (Minuses odd) t = refl
+spot-cut (Slash sense.Re) t = refl
+spot-cut (Slash sense.Div) t = refl
+spot-cut (Slash sense.Brace) t = refl
+spot-cut (LineComment s) t = refl
+spot-cut (BlockComment s star) t = refl
+spot-cut (InString q e) t = refl
+spot-cut (InRegexp true e) t = refl
+spot-cut (InRegexp false e) t = refl
+spot-cut (InTemplate e d) t = refl
+spot-cut TooDeep t = refl
+
+cut-spot : (v : ScriptState) → script_spot (script_after_cut v) ≡ script_spot v
+cut-spot v = ap (λ (o : Option Spot). if is_empty v.literals && is_empty v.held then o else None) (spot-cut v.at v.trail)
+
 at-cut : (v : ScriptState) → is_script_within v ≡ true → script_refuses_cut v ≡ None → AtCut v
-at-cut v i r = within-cut v.literals v.at v.held v.trail.markup v.trail.escape v.trail.fresh v.trail.brace v.trail.bracket v.trail.literal i r
+at-cut v i r =
+    let x = within-cut v.literals v.at v.held v.trail.markup v.trail.escape v.trail.fresh v.trail.brace v.trail.bracket v.trail.literal i (cut-without-part v ∙ r) in
+    record { before = x.before; may = x.may; spot = x.spot; is = sym (cut-spot v) ∙ (cut-spot (parts v.literals v.at v.held v.trail.markup v.trail.escape v.trail.fresh v.trail.brace v.trail.bracket v.trail.literal) ∙ x.is) }
 
 before-spot : (a : At) (h m : List ℕ) → EndsBefore a h m → (p : Spot) × (spot_at a (script_before a h m).trail ≡ Some p)
 before-spot _ _ _ (ends_code s h) = (_, refl)
@@ -520,31 +584,11 @@ before-cut a h m e r =
       is = ap (λ (z : List ℕ). if is_empty z then spot_at a (script_before a h m).trail else None) (held-of h o r) ∙ (before-spot a h m e).1;
     }
 
--- the place behind the end of a node, and the body
-spot-cut : (a : At) (t : Trail) → spot_at a (record { fresh = true; markup = t.markup; escape = t.escape; brace = t.brace; bracket = t.bracket; literal = t.literal }) ≡ spot_at a t
-spot-cut (Code s) t = refl
-spot-cut (Word w) t = refl
-spot-cut Number t = refl
-spot-cut (Pluses odd) t = refl
-spot-cut (Minuses odd) t = refl
-spot-cut (Slash sense.Re) t = refl
-spot-cut (Slash sense.Div) t = refl
-spot-cut (Slash sense.Brace) t = refl
-spot-cut (LineComment s) t = refl
-spot-cut (BlockComment s star) t = refl
-spot-cut (InString q e) t = refl
-spot-cut (InRegexp true e) t = refl
-spot-cut (InRegexp false e) t = refl
-spot-cut (InTemplate e d) t = refl
-spot-cut TooDeep t = refl
-
+-- the body behind the end of a node
 body-of : (v : ScriptState) (p : Spot) (c : Js) → script_may_begin_text v ≡ true → script_spot v ≡ Some p → script_place p ≡ c → script_body v ≡ Some (body.Js c)
 body-of v p c m s e =
-    ap (λ (x : Bool). if x then option_map (λ (q : Spot). body.Js (script_place q)) (script_spot v) else None) m
-    ∙ (ap (option_map (λ (q : Spot). body.Js (script_place q))) s ∙ ap (λ (z : Js). Some (body.Js z)) e)
-
-cut-spot : (v : ScriptState) → script_spot (script_after_cut v) ≡ script_spot v
-cut-spot v = ap (λ (o : Option Spot). if is_empty v.literals && is_empty v.held then o else None) (spot-cut v.at v.trail)
+    ap (λ (x : Bool). option_map body.Js (if x then option_map script_place (script_spot v) else None)) m
+    ∙ (ap (λ (o : Option Spot). option_map body.Js (option_map script_place o)) s ∙ ap (λ (z : Js). Some (body.Js z)) e)
 
 body-at-cut : (v : ScriptState) (c : Js) → (x : AtCut v) → script_place x.spot ≡ c → script_body (script_after_cut v) ≡ Some (body.Js c)
 body-at-cut v c x e = body-of (script_after_cut v) x.spot c x.may (cut-spot v ∙ x.is) e
@@ -673,7 +717,7 @@ record BodyBy (k : Bool) (o : Option Spot) (x : Body) : Type 0 where
   is : o ≡ Some spot
   whole : x ≡ body.Js (script_place spot)
 
-body-by : (k : Bool) (o : Option Spot) (x : Body) → (if k then option_map (λ (p : Spot). body.Js (script_place p)) o else None) ≡ Some x → BodyBy k o x
+body-by : (k : Bool) (o : Option Spot) (x : Body) → option_map body.Js (if k then option_map script_place o else None) ≡ Some x → BodyBy k o x
 body-by true (Some p) x h = record { may = refl; spot = p; is = refl; whole = sym (some-same (body.Js (script_place p)) x h) }
 body-by true None x h = absurd (none-given x h)
 body-by false o x h = absurd (none-given x h)

@@ -1,16 +1,16 @@
 -- A path within a text stays so, byte by byte.
-use Rattle.std.proofs.Common.{◌≡◌, ◌∙◌, ◌⊎◌, inl, inr, ℕ, zero, suc, ◌==◌, ◌≤◌, ◌<◌, ◌||◌, ◌&&◌, nat_eq, nat_le, nat_lt, not, Bool, true, false, bytes_eq, codes, List, [], ◌∷◌, ◌++◌, Option, Some, None, length, if◌then◌else◌, refl, sym, ap, subst, arith}
-use Rattle.std.proofs.lemmas.Bool.{eqb-true, cases_lt, lt-ltb, le-ltb, and_parts, or_cases, or_from, ltb-true}
+use Rattle.std.proofs.Common.{◌≡◌, ◌∙◌, inl, inr, ℕ, zero, suc, ◌==◌, ◌≤◌, ◌<◌, ◌||◌, ◌&&◌, nat_eq, Bool, true, false, bytes_eq, codes, List, [], ◌∷◌, ◌++◌, Option, Some, None, length, if◌then◌else◌, refl, sym, ap, subst}
+use Rattle.std.proofs.lemmas.Bool.{eqb-true, cases_lt, lt-ltb, le-ltb, and_parts, or_cases, or_from}
 use Rattle.std.proofs.lemmas.Slice.Eq.{bytes_eq-Decides}
 use Rattle.std.specs.Char.{to_ascii_lowercase}
 use Rattle.std.specs.List.{list_any, starts_with}
 use Rattle.js_lexer.specs.Classes.{class_of}
 use Rattle.js_lexer.specs.Feeding.{tells_white_apart, read_at, held_at, points, feed_script}
-use Rattle.js_lexer.specs.Refusals.{Cause, cause, HtmlInScript, first_script_cause, refusal_outside, slash_refusal, line_refusal, unless_taken, is_one_of, markup_refusal}
-use Rattle.js_lexer.specs.States.{ScriptEscape, NoEscape, AfterBackslash, AfterX, AfterX3, AfterCarriageReturn, At, Code, Word, Number, Pluses, Minuses, Slash, LineComment, BlockComment, InString, InRegexp, InTemplate, TooDeep, ScriptPoint, point, Trail, ScriptState}
+use Rattle.js_lexer.specs.Refusals.{Cause, cause, HtmlInScript, first_script_cause, refusal_outside, slash_refusal, line_refusal, is_one_of, markup_refusal}
+use Rattle.js_lexer.specs.States.{ScriptEscape, NoEscape, At, Code, Word, Number, Pluses, Minuses, Slash, LineComment, BlockComment, InString, InRegexp, InTemplate, TooDeep, NoLineYet, ScriptPoint, point, ScriptState}
 use Rattle.js_lexer.specs.Steps.{is_word, is_number, is_taken_in_script, is_taken_in_string, sense_if_odd, next_escape, next_code, literal_opens, brace_closes, next_script_string, next_regexp, next_template, next_slash, next_block, next_script_word, next_script_number, next_pluses, next_minuses, script_next}
 use Rattle.js_lexer.specs.Trails.{is_empty, is_markup_code, begins_markup, begun_markup, longer_markup, next_markup, markup_after, next_unfinished, escape_after, brace_after, bracket_after, literal_after}
-use Rattle.js_lexer.specs.WhiteSpace.{PastAscii, IsSpace, IsSeparator, BeginsWhite, IsOther, past_ascii, ClassedByte, classed, classed_as, released_alone, released_past_ascii, released_by, released, held_after}
+use Rattle.js_lexer.specs.WhiteSpace.{PastAscii, IsSpace, IsSeparator, BeginsWhite, IsOther, past_ascii, ClassedByte, classed, classed_as, released_alone, released_past_ascii, released, held_after}
 use Rattle.js_lexer.specs.Words.{sense_after}
 use Rattle.js_lexer.specs.declared.class.ScriptClass.{ScriptClass}
 use Rattle.js_lexer.specs.declared.class.ScriptClass.TheVariants as class
@@ -37,6 +37,7 @@ behind p h m e n k l b = record {
     brace = brace_after p.at e n b;
     bracket = bracket_after p.at k;
     literal = literal_after p.literals l;
+    lines = NoLineYet [];
   };
 }
 
@@ -584,7 +585,7 @@ block-goes s false _ b n k l = refl
 
 -- A state by its parts, and where a byte leads it.
 abbrev pub parts : List ℕ → At → (h m e : List ℕ) → (f : Bool) → (n k l : ℕ) → ScriptState
-parts fs a h m e f n k l = record { literals = fs; at = a; held = h; trail = record { fresh = f; markup = m; escape = e; brace = n; bracket = k; literal = l } }
+parts fs a h m e f n k l = record { literals = fs; at = a; held = h; trail = record { fresh = f; markup = m; escape = e; brace = n; bracket = k; literal = l; lines = NoLineYet [] } }
 
 -- what fits where white space is told apart: no escape is open
 record Fits (a : At) (h m e : List ℕ) (f : Bool) (n k l : ℕ) : Type 0 where
@@ -815,5 +816,14 @@ by-literals [] a h m e f n k l b element i r =
     (behind-first (slash_refusal a (class_of b)) (first_script_cause (line_refusal a (class_of b) b) (markup_refusal (parts [] a h m e f n k l) b)) r)))
 by-literals (j ∷ fs) a h m e f n k l b element i r = inside-fed a j fs h m e f n k l b
 
+abbrev parts-of : ScriptState → ScriptState
+parts-of v = parts v.literals v.at v.held v.trail.markup v.trail.escape v.trail.fresh v.trail.brace v.trail.bracket v.trail.literal
+
+-- what is refused does not depend on the part of a comment
+refused-by-parts : (fs : List ℕ) (element : Bool) (v : ScriptState) (c : ScriptClass) (b : ℕ) → refusal_outside fs element (parts-of v) c b ≡ refusal_outside fs element v c b
+refused-by-parts [] element v c b = refl
+refused-by-parts (j ∷ fs) element v c b = refl
+
 pub within-fed : (element : Bool) (v : ScriptState) (b : ℕ) → is_script_within v ≡ true → refusal_outside v.literals element v (class_of b) b ≡ None → is_script_within (feed_script v b) ≡ true
-within-fed element v b i r = by-literals v.literals v.at v.held v.trail.markup v.trail.escape v.trail.fresh v.trail.brace v.trail.bracket v.trail.literal b element i r
+within-fed element v b i r = by-literals v.literals v.at v.held v.trail.markup v.trail.escape v.trail.fresh v.trail.brace v.trail.bracket v.trail.literal b element i
+    (refused-by-parts v.literals element v (class_of b) b ∙ r)

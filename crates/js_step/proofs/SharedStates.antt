@@ -2,9 +2,9 @@
 use Rattle.std.proofs.Common.{◌≡◌, ◌∙◌, ℕ, nat_lt, Bool, true, false, List, [], ◌∷◌, ◌++◌, refl, sym, ap}
 use Rattle.js_lexer.specs.Classes.{class_of}
 use Rattle.js_lexer.specs.Feeding.{read_at, points, feed_script}
-use Rattle.js_lexer.specs.States.{At, Code, Word, Number, Pluses, Minuses, Slash, LineComment, BlockComment, InString, InRegexp, InTemplate, TooDeep, Trail, ScriptPoint, point, ScriptState}
+use Rattle.js_lexer.specs.States.{At, Code, Word, Number, Pluses, Minuses, Slash, LineComment, BlockComment, InString, InRegexp, InTemplate, TooDeep, PartLines, Trail, ScriptPoint, point, ScriptState}
 use Rattle.js_lexer.specs.Steps.{script_next, next_block}
-use Rattle.js_lexer.specs.Trails.{escape_after, brace_after, bracket_after, literal_after}
+use Rattle.js_lexer.specs.Trails.{escape_after, brace_after, bracket_after, literal_after, lines_after}
 use Rattle.js_lexer.specs.WhiteSpace.{PastAscii, IsSpace, IsSeparator, BeginsWhite, IsOther, past_ascii, ClassedByte, classed, classed_as, released_alone, released_past_ascii, released_by, released}
 use Rattle.js_lexer.specs.declared.class.ScriptClass.{ScriptClass}
 use Rattle.js_lexer.specs.declared.class.ScriptClass.TheVariants as class
@@ -144,6 +144,20 @@ bracket-plain (InRegexp false e) n = refl
 bracket-plain (InTemplate e d) n = refl
 bracket-plain TooDeep n = refl
 
+lines-plain : (a : At) (z : PartLines) (b : ℕ) → lines_after (script_at_in sense.Re a) z b ≡ lines_after a z b
+lines-plain (Code s) z b = refl
+lines-plain (Word w) z b = refl
+lines-plain Number z b = refl
+lines-plain (Pluses odd) z b = refl
+lines-plain (Minuses odd) z b = refl
+lines-plain (Slash s) z b = refl
+lines-plain (LineComment s) z b = refl
+lines-plain (BlockComment s star) z b = refl
+lines-plain (InString q e) z b = refl
+lines-plain (InRegexp k e) z b = refl
+lines-plain (InTemplate e d) z b = refl
+lines-plain TooDeep z b = refl
+
 -- a state behind a byte, by the point to which it has led
 abbrev behind : Trail → (fresh : Bool) → (markup held : List ℕ) → ℕ → ScriptPoint → ScriptState
 behind t fresh m h b p = record {
@@ -157,22 +171,26 @@ behind t fresh m h b p = record {
     brace = brace_after p.at t.escape t.brace b;
     bracket = bracket_after p.at t.bracket;
     literal = literal_after p.literals t.literal;
+    lines = lines_after p.at t.lines b;
   };
 }
 
-abbrev seen : Trail → (fresh : Bool) → (markup held : List ℕ) → ScriptPoint → List ℕ → ℕ → ℕ → ScriptState
-seen t fresh m h p e n k = record {
+abbrev seen : Trail → (fresh : Bool) → (markup held : List ℕ) → ScriptPoint → List ℕ → ℕ → ℕ → PartLines → ScriptState
+seen t fresh m h p e n k z = record {
   literals = p.literals;
   at = script_at_in sense.Re p.at;
   held = h;
-  trail = record { fresh = fresh; markup = m; escape = e; brace = n; bracket = k; literal = literal_after p.literals t.literal };
+  trail = record { fresh = fresh; markup = m; escape = e; brace = n; bracket = k; literal = literal_after p.literals t.literal; lines = z };
 }
 
 behind-plain : (t : Trail) (fresh : Bool) (m h : List ℕ) (b : ℕ) (p : ScriptPoint) → script_in_sense sense.Re (behind t fresh m h b p) ≡ behind t fresh m h b (plain p)
 behind-plain t fresh m h b p =
-    ap (λ (e : List ℕ). seen t fresh m h p e (brace_after p.at t.escape t.brace b) (bracket_after p.at t.bracket)) (sym (escape-plain p.at t.escape b))
-    ∙ (ap (λ (n : ℕ). seen t fresh m h p (escape_after (script_at_in sense.Re p.at) t.escape b) n (bracket_after p.at t.bracket)) (sym (brace-plain p.at t.escape t.brace b))
-    ∙ ap (λ (k : ℕ). seen t fresh m h p (escape_after (script_at_in sense.Re p.at) t.escape b) (brace_after (script_at_in sense.Re p.at) t.escape t.brace b) k) (sym (bracket-plain p.at t.bracket)))
+    ap (λ (e : List ℕ). seen t fresh m h p e (brace_after p.at t.escape t.brace b) (bracket_after p.at t.bracket) (lines_after p.at t.lines b)) (sym (escape-plain p.at t.escape b))
+    ∙ (ap (λ (n : ℕ). seen t fresh m h p (escape_after (script_at_in sense.Re p.at) t.escape b) n (bracket_after p.at t.bracket) (lines_after p.at t.lines b)) (sym (brace-plain p.at t.escape t.brace b))
+    ∙ (ap (λ (k : ℕ). seen t fresh m h p (escape_after (script_at_in sense.Re p.at) t.escape b) (brace_after (script_at_in sense.Re p.at) t.escape t.brace b) k (lines_after p.at t.lines b))
+    (sym (bracket-plain p.at t.bracket))
+    ∙ ap (seen t fresh m h p (escape_after (script_at_in sense.Re p.at) t.escape b) (brace_after (script_at_in sense.Re p.at) t.escape t.brace b) (bracket_after (script_at_in sense.Re p.at) t.bracket))
+    (sym (lines-plain p.at t.lines b))))
 
 same-behind : (t : Trail) (fresh : Bool) (m h : List ℕ) (b : ℕ) (p q : ScriptPoint) → plain p ≡ plain q
     → script_in_sense sense.Re (behind t fresh m h b p) ≡ script_in_sense sense.Re (behind t fresh m h b q)

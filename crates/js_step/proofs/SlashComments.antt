@@ -7,7 +7,7 @@ use Rattle.js_lexer.specs.Classes.{is_space, is_line_terminator, script_opens, c
 use Rattle.js_lexer.specs.Feeding.{tells_white_apart, read_at, feed_script}
 use Rattle.js_lexer.specs.Refusals.{Cause, cause, HtmlInScript, first_script_cause, refusal_outside, is_one_of, whole_cut_refusal, end_refusal_at}
 use Rattle.js_lexer.specs.States.{At, Slash, LineComment, BlockComment, Trail, ScriptState}
-use Rattle.js_lexer.specs.Trails.{next_markup, longer_markup, begins_markup}
+use Rattle.js_lexer.specs.Trails.{next_markup, longer_markup, begins_markup, lines_after}
 use Rattle.js_lexer.specs.WhiteSpace.{released, held_after}
 use Rattle.js_lexer.specs.declared.class.ScriptClass.{ScriptClass}
 use Rattle.js_lexer.specs.declared.class.ScriptClass.TheVariants as class
@@ -168,18 +168,18 @@ asterisk-error false sense.Re x k z u element = ap (λ (m : List ℕ). first_scr
 asterisk-error false sense.Div x k z u element = refl
 asterisk-error false sense.Brace x k z u element = refl
 
-abbrev in-comment : At → Trail → List ℕ → ScriptState
-in-comment a u m = record { literals = []; at = a; held = []; trail = record { fresh = u.fresh && false; markup = m; escape = []; brace = 0; bracket = 0; literal = 0 } }
+abbrev in-comment : ℕ → At → Trail → List ℕ → ScriptState
+in-comment b a u m = record { literals = []; at = a; held = []; trail = record { fresh = u.fresh && false; markup = m; escape = []; brace = 0; bracket = 0; literal = 0; lines = lines_after a u.lines b } }
 
-solidus-leads : (o : Sense) (u : Trail) → feed_script (slash-state o u) 47 ≡ in-comment (LineComment o) u (next_markup false true u.markup 47)
+solidus-leads : (o : Sense) (u : Trail) → feed_script (slash-state o u) 47 ≡ in-comment 47 (LineComment o) u (next_markup false true u.markup 47)
 unfolding class_of released held_after
-solidus-leads sense.Re u = ap (in-comment (LineComment sense.Re) u) (markup-47 u.markup)
+solidus-leads sense.Re u = ap (in-comment 47 (LineComment sense.Re) u) (markup-47 u.markup)
 solidus-leads sense.Div u = refl
 solidus-leads sense.Brace u = refl
 
-asterisk-leads : (o : Sense) (u : Trail) → feed_script (slash-state o u) 42 ≡ in-comment (BlockComment o false) u (next_markup false true u.markup 42)
+asterisk-leads : (o : Sense) (u : Trail) → feed_script (slash-state o u) 42 ≡ in-comment 42 (BlockComment o false) u (next_markup false true u.markup 42)
 unfolding class_of released held_after
-asterisk-leads sense.Re u = ap (in-comment (BlockComment sense.Re false) u) (markup-42 u.markup)
+asterisk-leads sense.Re u = ap (in-comment 42 (BlockComment sense.Re false) u) (markup-42 u.markup)
 asterisk-leads sense.Div u = refl
 asterisk-leads sense.Brace u = refl
 
@@ -193,12 +193,12 @@ comment-by true = 47
 comment-by false = 42
 
 comment-leads : (line : Bool) (o : Sense) (u : Trail)
-    → feed_script (slash-state o u) (comment-by line) ≡ in-comment (comment-at line o) u (next_markup false true u.markup (comment-by line))
+    → feed_script (slash-state o u) (comment-by line) ≡ in-comment (comment-by line) (comment-at line o) u (next_markup false true u.markup (comment-by line))
 comment-leads true o u = solidus-leads o u
 comment-leads false o u = asterisk-leads o u
 
 in-plain : (line : Bool) (o : Sense) (u : Trail) (m : List ℕ)
-    → script_in_sense sense.Re (in-comment (comment-at line o) u m) ≡ in-comment (comment-at line sense.Re) u m
+    → script_in_sense sense.Re (in-comment (comment-by line) (comment-at line o) u m) ≡ in-comment (comment-by line) (comment-at line sense.Re) u m
 in-plain true o u m = refl
 in-plain false o u m = refl
 

@@ -6,7 +6,7 @@ use Rattle.js_lexer.specs.Feeding.{tells_white_apart, feed_script}
 use Rattle.js_lexer.specs.Holes.{script_after_cut, script_after_hole}
 use Rattle.js_lexer.specs.Refusals.{is_one_of, script_refuses, script_refuses_cut, refuses_end}
 use Rattle.js_lexer.specs.Spots.{spot_before}
-use Rattle.js_lexer.specs.States.{ScriptEscape, NoEscape, AfterBackslash, AfterX, AfterX3, AfterCarriageReturn, At, Code, Word, Number, Pluses, Minuses, Slash, LineComment, BlockComment, InString, InRegexp, InTemplate, TooDeep, ScriptState, script_start}
+use Rattle.js_lexer.specs.States.{ScriptEscape, NoEscape, AfterBackslash, AfterX, AfterX3, AfterCarriageReturn, At, Code, Minuses, Slash, InString, InRegexp, InTemplate, TooDeep, ScriptState, script_start}
 use Rattle.js_lexer.specs.Trails.{is_empty}
 use Rattle.js_lexer.specs.declared.sense.Sense.TheVariants as sense
 use Rattle.place_core.specs.declared.body.Body.{Body}

@@ -4,12 +4,11 @@ use Rattle.js_lexer.specs.Feeding.{feed_script}
 use Rattle.js_lexer.specs.Holes.{script_after_cut, script_after_hole}
 use Rattle.js_lexer.specs.Refusals.{script_refuses, script_refuses_cut, refuses_end}
 use Rattle.js_lexer.specs.Spots.{Spot, script_spot}
-use Rattle.js_lexer.specs.States.{NoEscape, At, Code, Word, Number, Pluses, Minuses, Slash, LineComment, BlockComment, InString, InRegexp, ScriptState, script_start}
+use Rattle.js_lexer.specs.States.{NoLineYet, NoEscape, At, Code, Word, Number, Pluses, Minuses, Slash, LineComment, BlockComment, InString, InRegexp, ScriptState, script_start}
 use Rattle.js_lexer.specs.Steps.{sense_if_odd}
 use Rattle.js_lexer.specs.Words.{sense_after}
 use Rattle.js_lexer.specs.declared.sense.Sense.{Sense}
 use Rattle.js_lexer.specs.declared.sense.Sense.TheVariants as sense
-use Rattle.place_core.specs.declared.js.Js.{Js}
 use Rattle.place_core.specs.declared.js.Js.TheVariants as js
 use Rattle.js_step.specs.ScriptScans.{ScriptScan, script_scan, script_begun, script_sense_at, script_tail_at, script_star_at, script_scan_start, script_scan_next, script_scan_error, script_scan_place, script_scan_cut_error, script_scan_end_error, script_at_hole}
 use Rattle.place_core.specs.place.ScriptParts.{script_tails, script_no_tails, script_senses, script_place}
@@ -80,7 +79,7 @@ script_before a h m = record {
   literals = [];
   at = a;
   held = h;
-  trail = record { fresh = true; markup = m; escape = []; brace = 0; bracket = 0; literal = 0 };
+  trail = record { fresh = true; markup = m; escape = []; brace = 0; bracket = 0; literal = 0; lines = NoLineYet [] };
 }
 
 pub data IsBeforeText : ScriptState → Type 0 where

@@ -1,7 +1,7 @@
 -- The scan states of the code, and its answers.
 use Rattle.std.specs.Prelude.{ℕ, ◌+◌, ◌-◌, ◌^◌, ◌≤◌, Bool, true, false, codes, get_or, not, List, [], ◌∷◌, Option, Some, None, ⊤, take, drop}
 use Rattle.js_lexer.specs.Refusals.{Cause, is_one_of}
-use Rattle.js_lexer.specs.States.{ScriptEscape, NoEscape, AfterBackslash, AfterX, AfterX3, AfterCarriageReturn, At, Code, Word, Number, Pluses, Minuses, Slash, LineComment, BlockComment, InString, InRegexp, InTemplate, TooDeep, Trail, ScriptPoint, point}
+use Rattle.js_lexer.specs.States.{ScriptEscape, NoEscape, AfterBackslash, AfterX, AfterX3, AfterCarriageReturn, At, Code, Word, Number, Pluses, Minuses, Slash, LineComment, BlockComment, InString, InRegexp, InTemplate, TooDeep, PartLines, HasLine, NoLineYet, Trail, ScriptPoint, point}
 use Rattle.js_lexer.specs.Trails.{is_empty}
 use Rattle.js_lexer.specs.WhiteSpace.{ClassedByte, PastAscii, IsSpace, IsSeparator, BeginsWhite, IsOther}
 use Rattle.js_lexer.specs.declared.class.ScriptClass.{ScriptClass}
@@ -20,6 +20,8 @@ use Rattle.js_step.specs.declared.scan.ScriptLetters.TheVariants as letters
 use Rattle.js_step.specs.declared.scan.ScriptLiterals.{ScriptLiterals}
 use Rattle.js_step.specs.declared.scan.ScriptMarkup.{ScriptMarkup}
 use Rattle.js_step.specs.declared.scan.ScriptMarkup.TheVariants as markup
+use Rattle.js_step.specs.declared.scan.ScriptPart.{ScriptPart}
+use Rattle.js_step.specs.declared.scan.ScriptPart.TheVariants as part
 use Rattle.js_step.specs.declared.scan.ScriptScan.{ScriptScan as ReadScan}
 use Rattle.js_step.specs.declared.scan.ScriptTrail.{ScriptTrail}
 use Rattle.js_step.specs.declared.scan.ScriptUnfinished.{ScriptUnfinished}
@@ -98,6 +100,12 @@ script_unfinished_at (unfinished.Two a b) = 92 ∷ a ∷ b ∷ []
 script_unfinished_at (unfinished.Three a b c) = 92 ∷ a ∷ b ∷ c ∷ []
 script_unfinished_at (unfinished.Four a b c d) = 92 ∷ a ∷ b ∷ c ∷ d ∷ []
 
+abbrev pub script_lines_at : ScriptPart → PartLines
+script_lines_at part.None = NoLineYet []
+script_lines_at part.E2 = NoLineYet (0xE2 ∷ [])
+script_lines_at part.E280 = NoLineYet (0xE2 ∷ 0x80 ∷ [])
+script_lines_at part.Line = HasLine
+
 abbrev pub script_trail_at : ScriptTrail → Trail
 script_trail_at t = record {
   fresh = t.fresh;
@@ -106,6 +114,7 @@ script_trail_at t = record {
   brace = t.brace;
   bracket = t.bracket;
   literal = t.literal;
+  lines = script_lines_at t.lines;
 }
 
 abbrev pub script_scan_at : ReadScan → ScriptScan

@@ -5,8 +5,8 @@ use Rattle.std.specs.Prelude.{ℕ, ◌||◌, ◌&&◌, Bool, true, false, List, 
 use Rattle.js_lexer.specs.Classes.{class_of}
 use Rattle.js_lexer.specs.Feeding.{tells_white_apart, read_at, feed_script}
 use Rattle.js_lexer.specs.Refusals.{Cause, cause, SplitToken, SlashAmbig, first_script_cause, refusal_outside, whole_cut_refusal, unless_in_character, refuses_end}
-use Rattle.js_lexer.specs.Spots.{Tail, NoTail, WordTail, NumberTail, LessTail, SlashTail, PlusTail, MinusTail, HashTail, tail_of}
-use Rattle.js_lexer.specs.States.{NoEscape, At, Code, Word, Number, Pluses, Minuses, Slash, LineComment, BlockComment, InString, InRegexp, InTemplate, TooDeep, Trail, ScriptState}
+use Rattle.js_lexer.specs.Spots.{Tail, NoTail, WordTail, NumberTail, SlashTail, PlusTail, MinusTail, tail_of}
+use Rattle.js_lexer.specs.States.{NoEscape, At, Code, Word, Number, Pluses, Minuses, Slash, LineComment, BlockComment, InString, InRegexp, InTemplate, TooDeep, NoLineYet, Trail, ScriptState}
 use Rattle.js_lexer.specs.Steps.{sense_if_odd}
 use Rattle.js_lexer.specs.Trails.{is_empty}
 use Rattle.js_lexer.specs.WhiteSpace.{ClassedByte}
@@ -82,7 +82,7 @@ script_star_at a = false
 
 -- Where a text begins at a place. Of what paths have ended in the shared state keeps nothing, as no text goes on with it.
 abbrev pub script_begun_trail : Trail
-script_begun_trail = record { fresh = true; markup = []; escape = []; brace = 0; bracket = 0; literal = 0 }
+script_begun_trail = record { fresh = true; markup = []; escape = []; brace = 0; bracket = 0; literal = 0; lines = NoLineYet [] }
 
 abbrev pub script_begun : Senses → JsTails → Bool → At → List ℕ → ScriptScan
 script_begun s x star a held = script_scan s x star (record { literals = []; at = a; held = held; trail = script_begun_trail })

@@ -4,8 +4,8 @@ ghost use Rattle.js_step.specs.ScriptScanViews.{script_lexeme_at, script_scan_at
 ghost use Rattle.js_step.specs.ScriptScans.{script_begun, script_begun_trail, script_scan_start};
 
 use crate::scan::{
-    NO_TAILS, ScriptAt, ScriptEscape, ScriptHeld, ScriptLiterals, ScriptMarkup, ScriptScan,
-    ScriptTrail, ScriptUnfinished,
+    NO_TAILS, ScriptAt, ScriptEscape, ScriptHeld, ScriptLiterals, ScriptMarkup, ScriptPart,
+    ScriptScan, ScriptTrail, ScriptUnfinished,
 };
 use crate::senses::one_sense;
 use place_core::{Js, JsTails, Senses};
@@ -22,6 +22,7 @@ fn begun_trail() -> ScriptTrail
         brace: 0,
         bracket: 0,
         literal: 0,
+        lines: ScriptPart::None,
     }
 }
 

@@ -38,7 +38,7 @@ pub use order::{scripts_come_from, scripts_grow};
 pub use places::{place, shown};
 pub use refusals::refused;
 pub use scan::{
-    ScriptAt, ScriptEscape, ScriptHeld, ScriptLetters, ScriptLiterals, ScriptMarkup, ScriptScan,
-    ScriptTrail, ScriptUnfinished, ScriptWord,
+    ScriptAt, ScriptEscape, ScriptHeld, ScriptLetters, ScriptLiterals, ScriptMarkup, ScriptPart,
+    ScriptScan, ScriptTrail, ScriptUnfinished, ScriptWord,
 };
 pub use text::next;

@@ -123,8 +123,21 @@ pub enum ScriptUnfinished {
     Four(u8, u8, u8, u8),
 }
 
-/// What is known of the bytes that were read, for what is refused: whether the first character is still ahead; and how many bytes have been
-/// read, with the first, since a `\u{` that is not closed, since a `[`, and since the outermost template literal.
+/// Of the part of a block comment that stands in this text: whether the end of a line is in it, or the first bytes of one stand at its end.
+#[derive(Clone, Copy)]
+pub enum ScriptPart {
+    None,
+    /// `E2`, with which U+2028 and U+2029 begin.
+    E2,
+    /// `E2 80`.
+    E280,
+    /// The end of a line.
+    Line,
+}
+
+/// What is known of the bytes that were read, for what is refused and what is written: whether the first character is still ahead; how many
+/// bytes have been read, with the first, since a `\u{` that is not closed, since a `[`, and since the outermost template literal; and the part
+/// of a block comment.
 #[derive(Clone, Copy)]
 pub struct ScriptTrail {
     pub fresh: bool,
@@ -133,6 +146,7 @@ pub struct ScriptTrail {
     pub brace: u128,
     pub bracket: u128,
     pub literal: u128,
+    pub lines: ScriptPart,
 }
 
 /// Where a text of a script has been read to, on all paths together: what a slash would be; what some path ended in before the text, and

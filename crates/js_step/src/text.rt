@@ -1,11 +1,11 @@
-ghost use Rattle.std.specs.Prelude.{◌≡◌, ◌&&◌, ◌+◌, ◌≤◌, ℕ};
+ghost use Rattle.std.specs.Prelude.{◌≡◌, ◌&&◌, ◌+◌, ◌≤◌, [], ◌∷◌, ℕ};
 ghost use Rattle.js_lexer.specs.Feeding as feeding;
 ghost use Rattle.js_lexer.specs.Trails as trails;
 ghost use Rattle.js_step.specs.KeptWords.{kept_point, kept_scan};
 ghost use Rattle.js_step.specs.ScriptScanViews.{most_bytes};
 ghost use Rattle.js_step.specs.ScriptScanViews.{ScriptBracesFit, ScriptScanFits};
 ghost use Rattle.js_step.specs.ScriptScanViews.{ScriptTrailFits};
-ghost use Rattle.js_step.specs.ScriptScanViews.{script_lexeme_at, script_literals_at};
+ghost use Rattle.js_step.specs.ScriptScanViews.{script_lexeme_at, script_lines_at, script_literals_at};
 ghost use Rattle.js_step.specs.ScriptScanViews.{script_point_at, script_scan_at};
 ghost use Rattle.js_step.specs.ScriptScanViews.{script_trail_at};
 ghost use Rattle.js_step.specs.ScriptScans.{script_in_sense, script_scan_next, script_sense_next};
@@ -15,7 +15,7 @@ use crate::feeding::fed;
 use crate::literals::is_outside;
 use crate::point::ScriptPoint;
 use crate::refusals::tells_white_apart;
-use crate::scan::{NO_TAILS, ScriptAt, ScriptLiterals, ScriptScan, ScriptTrail};
+use crate::scan::{NO_TAILS, ScriptAt, ScriptLiterals, ScriptPart, ScriptScan, ScriptTrail};
 use crate::senses::{both, in_sense, one_sense, only, sense_at};
 use crate::white::{next_held, releases};
 use crate::{escapes, markup};
@@ -43,6 +43,47 @@ fn next_literal(literals: ScriptLiterals, literal: u128) -> u128
     if is_outside(literals) { 0 } else { literal + 1 }
 }
 
+// What a byte is by itself in a block comment: the end of a line, or the first byte of one.
+#[tactic(auto, using(crate::proofs::LineBytes::line_rules))]
+fn line_alone(byte: u8) -> ScriptPart
+    ensures { script_lines_at result ≡ trails.lines_of (byte ∷ []) }
+{
+    if byte == b'\n' {
+        return ScriptPart::Line;
+    }
+    if byte == b'\r' {
+        return ScriptPart::Line;
+    }
+    if byte == 0xE2 {
+        return ScriptPart::E2;
+    }
+    ScriptPart::None
+}
+
+// Whether the end of a line is in the part of a block comment, behind a byte of it.
+#[tactic(auto, using(crate::proofs::LineBytes::line_rules))]
+fn lines_with(lines: ScriptPart, byte: u8) -> ScriptPart
+    ensures { script_lines_at result ≡ trails.lines_with (script_lines_at lines) byte }
+{
+    match (lines, byte) {
+        (ScriptPart::Line, _) => ScriptPart::Line,
+        (ScriptPart::E280, 0xA8) => ScriptPart::Line,
+        (ScriptPart::E280, 0xA9) => ScriptPart::Line,
+        (ScriptPart::E2, 0x80) => ScriptPart::E280,
+        _ => line_alone(byte),
+    }
+}
+
+fn next_lines(at: ScriptAt, lines: ScriptPart, byte: u8) -> ScriptPart
+    ensures { script_lines_at result
+        ≡ trails.lines_after (script_lexeme_at at) (script_lines_at lines) byte }
+{
+    match at {
+        ScriptAt::Block(_, _) => lines_with(lines, byte),
+        _ => ScriptPart::None,
+    }
+}
+
 // What is known of the bytes behind one that leads from a point to another.
 fn next_trail(
     some: bool,
@@ -64,6 +105,7 @@ fn next_trail(
         brace: escapes::next_brace(to.at, trail.escape, trail.brace, byte),
         bracket: next_bracket(to.at, trail.bracket),
         literal: next_literal(to.literals, trail.literal),
+        lines: next_lines(to.at, trail.lines, byte),
     }
 }
 

@@ -42,6 +42,5 @@ pub fn code_name(code: Code) -> &'static str
         Code::SplitToken => "SplitToken",
         Code::BadString => "BadString",
         Code::HtmlInScript => "HtmlInScript",
-        Code::NotBuilt => "NotBuilt",
     }
 }

@@ -61,7 +61,7 @@ in-element-by e v (OfScript s) text bytes d a at b = absurd a
 in-element : (e : Element) (v : Style Url) (text bytes : List ℕ) (t : List LexEvent) (d : Config ValueState)
     → StandsInStyleElement languages e v Nothing t d → ReadsBackInStyle v text bytes → IsInElement e text bytes d
 in-element e v text bytes t d l b =
-    in-element-by e v (fed_state languages l.there (pending_bytes l.held)) text bytes d l.alike
+    in-element-by e v (fed_state languages (OfStyle l.there) (pending_bytes l.held)) text bytes d l.alike
     (ap (λ (c : Config ValueState). settled_state languages c.at) l.at) b
 
 -- bytes that read back where the path is, and none of which is a `<`, do so on each page that stands for it

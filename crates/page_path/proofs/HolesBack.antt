@@ -16,6 +16,8 @@ use Rattle.page_path.proofs.StyleBack.{WrittenInLanguages, code-back, comment-ba
 use Rattle.page_path.proofs.StyleBack as styles
 use Rattle.page_path.proofs.ScriptBack.{IsHere, in_script, spot-here}
 use Rattle.page_path.proofs.ScriptBack as scripts
+use Rattle.page_path.proofs.ScriptElementBack.{in_script_element}
+use Rattle.page_path.proofs.ScriptElementBack as script-elements
 use Rattle.page_path.proofs.UrlBack.{in-url, part-back, quoted-back, unbegun-back, url-back}
 use Rattle.place_core.specs.page.Events.{LexEvent}
 use Rattle.place_core.specs.place.Membership.{IsIn}
@@ -124,7 +126,7 @@ in-block = record {
   back = λ laws datum u. same-back in_block datum _ refl (block-back (printed datum) u).undoes;
 }
 
--- in a comment, of HTML or of a style in its element, the value is left out
+-- in a comment, of HTML or of a style or a script in its element, the value is left out
 in-comment : (s : LexState ValueState) → IsSafe (only san.Drop) s
 in-comment s = record { promised = λ laws datum u. refl; back = λ laws datum u. tt }
 
@@ -408,7 +410,7 @@ script-spot-safe (LineSpot x) q tag s e = in-script-comment q tag s (spot-here s
 script-spot-safe (BlockSpot x star) q tag s e = in-script-comment q tag s (spot-here s (BlockSpot x star) e)
 
 script-safe : (begins : Bool) (o : Option Spot) (q : Quoting) (tag : Tag) (s : ScriptState) → script_spot s ≡ o
-    → SafeAt (in_script q tag s) (value_spot tag (quotes_at q) (if begins then option_map (λ p. body.Js (script_place p)) o else None))
+    → SafeAt (in_script q tag s) (value_spot tag (quotes_at q) (option_map body.Js (if begins then option_map script_place o else None)))
 script-safe true (Some p) q tag s e = script-spot-safe p q tag s e
 script-safe true None q tag s e = tt
 script-safe false o q tag s e = tt
@@ -544,8 +546,43 @@ element-safe (InUrl (Quoted quote (HexDigits n)) u) = tt
 element-safe (InUrl (Quoted quote AfterReturn) u) = tt
 element-safe (InUrl Ended u) = tt
 
+-- In the element of a script: in code, in a string, in a regular expression, and in a comment, where the value is dropped.
+element-script-code : (s : ScriptState) → IsHere san.JsValue s → script_may_begin_text s ≡ true → IsSafe (only san.JsValue) (in_script_element s)
+element-script-code s here m = record {
+  promised = λ laws datum u. script-elements.in-code laws.scripts datum u;
+  back = λ laws datum u t d l. script-elements.code-back laws.scripts s here m datum u t d l;
+}
+
+element-script-string : (s : ScriptState) → IsHere san.JsString s → script_may_begin_text s ≡ true → IsSafe (only san.JsString) (in_script_element s)
+element-script-string s here m = record {
+  promised = λ laws datum utf8. script-elements.in-string laws.scripts (printed datum);
+  back = λ laws datum utf8 t d l. script-elements.string-back laws.scripts s here m datum utf8 t d l;
+}
+
+element-script-regexp : (s : ScriptState) → IsHere san.JsRegexp s → script_may_begin_text s ≡ true → IsSafe (only san.JsRegexp) (in_script_element s)
+element-script-regexp s here m = record {
+  promised = λ laws datum utf8. script-elements.in-regexp laws.scripts (printed datum);
+  back = λ laws datum utf8 t d l. script-elements.regexp-back laws.scripts s here m datum utf8 t d l;
+}
+
+element-script-spot : (p : Spot) (s : ScriptState) → script_may_begin_text s ≡ true → script_spot s ≡ Some p
+    → SafeAt (in_script_element s) (Some (place.Script (script_place p)))
+element-script-spot (CodeSpot x tail) s m e = element-script-code s (spot-here s (CodeSpot x tail) e) m
+element-script-spot (StringSpot true) s m e = element-script-string s (spot-here s (StringSpot true) e) m
+element-script-spot (StringSpot false) s m e = element-script-string s (spot-here s (StringSpot false) e) m
+element-script-spot (RegexpSpot slash) s m e = element-script-regexp s (spot-here s (RegexpSpot slash) e) m
+element-script-spot (LineSpot x) s m e = in-comment (in_script_element s)
+element-script-spot (BlockSpot x star) s m e = in-comment (in_script_element s)
+
+script-element-safe : (begins : Bool) (o : Option Spot) (s : ScriptState) → script_may_begin_text s ≡ begins → script_spot s ≡ o
+    → SafeAt (in_script_element s) (option_map place.Script (if begins then option_map script_place o else None))
+script-element-safe true (Some p) s m e = element-script-spot p s m e
+script-element-safe true None s m e = tt
+script-element-safe false o s m e = tt
+
 language-safe : (e : Element) (v : ValueState) → SafeAt (InContent e (InLanguage v) Nothing) (language_place e v)
 language-safe element.Style (OfStyle v) = element-safe v
+language-safe element.Script (OfScript s) = script-element-safe (script_may_begin_text s) (script_spot s) s refl refl
 language-safe _ _ = tt
 
 -- likewise in any content, and so wherever a hole is accepted

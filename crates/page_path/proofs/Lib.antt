@@ -10,6 +10,7 @@ pub mod PiecesFilled
 pub mod PiecesRead
 pub mod Runs
 pub mod ScriptBack
+pub mod ScriptElementBack
 pub mod Signs
 pub mod Sound
 pub mod StyleBack

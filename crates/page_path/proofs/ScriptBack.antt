@@ -87,7 +87,7 @@ spot_san (RegexpSpot slash) = san.JsRegexp
 spot_san (LineSpot s) = san.Drop
 spot_san (BlockSpot s star) = san.Drop
 
-abbrev san_at : At → San
+abbrev pub san_at : At → San
 san_at (Code s) = san.JsValue
 san_at (Word w) = san.JsValue
 san_at Number = san.JsValue
@@ -128,9 +128,9 @@ spot-there TooDeep t p e = cc
 
 -- a state in no template literal, with nothing held back, where a value has this sanitizer
 pub record IsHere (x : San) (s : ScriptState) : Type 0 where
-  literals : s.literals ≡ []
-  held : s.held ≡ []
-  at : san_at s.at ≡ x
+  pub literals : s.literals ≡ []
+  pub held : s.held ≡ []
+  pub at : san_at s.at ≡ x
 
 open-spot : (literals held : List ℕ) (o : Option Spot) (p : Spot) → (if is_empty literals && is_empty held then o else None) ≡ Some p
     → (literals ≡ []) × ((held ≡ []) × (o ≡ Some p))
@@ -174,7 +174,7 @@ passed-here x v w h passed = record {
   at = sym (paged-san w.at) ∙ ap san_at passed.page ∙ sym (ap san_at passed.path) ∙ paged-san v.at ∙ h.at;
 }
 
-page-here : (x : San) (v w : ScriptState) → IsHere x v → ScriptsAlike v w → IsHere x w
+pub page-here : (x : San) (v w : ScriptState) → IsHere x v → ScriptsAlike v w → IsHere x w
 page-here x v w h (escape, inl same) = same-here x v w h same
 page-here x v w h (escape, inr passed) = passed-here x v w h passed
 
@@ -225,12 +225,12 @@ reads-own laws (InRegexp k e) t datum own u = laws.texts.regexps (printed datum)
 reads-own laws (InTemplate e dollar) t datum own u = absurd (own refl)
 reads-own laws TooDeep t datum own u = absurd (own refl)
 
-open-state : (P : ScriptState → Type 0) (s : ScriptState) → s.literals ≡ [] → s.held ≡ [] → P (in_code s.at s.trail) → P s
+pub open-state : (P : ScriptState → Type 0) (s : ScriptState) → s.literals ≡ [] → s.held ≡ [] → P (in_code s.at s.trail) → P s
 open-state P s e f h =
     subst (λ (literals : List ℕ). P (state_of literals s.at s.held s.trail)) (sym e)
     (subst (λ (held : List ℕ). P (state_of [] s.at held s.trail)) (sym f) h)
 
-script-reads : WrittenInScripts → (x : San) (s : ScriptState) (datum : Data) → (x ≡ san.Html → ⊥) → IsHere x s → IsTextFor x datum
+pub script-reads : WrittenInScripts → (x : San) (s : ScriptState) (datum : Data) → (x ≡ san.Html → ⊥) → IsHere x s → IsTextFor x datum
     → ReadsThere x s datum
 script-reads laws x s datum own here u =
     open-state (λ (w : ScriptState). ReadsThere x w datum) s here.literals here.held

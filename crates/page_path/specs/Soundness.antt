@@ -101,6 +101,12 @@ pub record IsScriptBack (q : Quoting) (tag : Tag) (script : ScriptState) (s : Le
   pub goes_on : read Page bytes (config s []) ≡ read_value q tag (ValueOf (OfScript script)) (url_bytes q characters) []
   pub reads : ReadsBackAt script.at datum characters (read_on characters (script_reading script [])).told
 
+-- in the element of a script, likewise
+pub record IsScriptElementBack (e : Element) (script : ScriptState) (datum : Data) (bytes : List ℕ) : Type 0 where
+  pub goes_on : read Page bytes (config (InContent e (InLanguage (OfScript script)) Nothing) [])
+      ≡ config (InContent e (InLanguage (fed_state languages (OfScript script) bytes)) Nothing) (emits_fed languages (OfScript script) bytes [])
+  pub reads : ReadsBackAt script.at datum bytes (read_on bytes (script_reading script [])).told
+
 -- in a value of an attribute, by how it is read
 abbrev pub IsValueBack : Quoting → Tag → Value ValueState → LexState ValueState → Data → List ℕ → Type 0
 IsValueBack q tag (ValueOf (OfKind k)) s datum bytes =
@@ -118,6 +124,7 @@ IsBack (InContent e (Characters r) Nothing) datum bytes =
     ≡ config (InContent e (Characters Closed) Nothing) (event_text_bytes (read_as_text (printed datum)) [])
 IsBack (InContent e Bytes Nothing) datum bytes = undone false Closed bytes ≡ read_as_text (printed datum)
 IsBack (InContent e (InLanguage (OfStyle style)) Nothing) datum bytes = IsElementBack e style (printed datum) bytes
+IsBack (InContent e (InLanguage (OfScript script)) Nothing) datum bytes = IsScriptElementBack e script datum bytes
 IsBack (AttributeValue q tag v r) datum bytes = IsValueBack q tag v (AttributeValue q tag v r) datum bytes
 IsBack (BeforeAttributeValue tag k) datum bytes =
     IsValueBack Unquoted tag (attribute_value_of languages k) (BeforeAttributeValue tag k) datum bytes

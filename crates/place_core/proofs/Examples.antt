@@ -5,8 +5,8 @@ use Rattle.place_core.specs.page.Classes.{class_of}
 use Rattle.place_core.specs.page.Events.{Escape, StartTagBegins, EndTagBegins, AttributeBegins, AttributeNameEnds, ValueScheme, TagEnds, Comment, DoctypeBegins, DoctypeEnds, event_text_bytes, block_bytes, value_bytes, attribute_name_bytes, doctype_bytes, tag_name_bytes}
 use Rattle.place_core.specs.page.Html.{read, start}
 use Rattle.place_core.specs.page.References.{Closed, Open, Named, meaning, flushed, undone}
-use Rattle.place_core.specs.page.States.{Page, Template, Text, InComment, Inside, Unread, AttributeValue, BeforeAttributeValue, config}
-use Rattle.place_core.specs.page.Tags.{tag_named, ValueOf, OfKind, Unquoted}
+use Rattle.place_core.specs.page.States.{Page, Template, Text, InComment, Inside, InContent, InLanguage, Nothing, AttributeValue, BeforeAttributeValue, config}
+use Rattle.place_core.specs.page.Tags.{languages, tag_named, ValueOf, OfKind, Unquoted}
 use Rattle.place_core.specs.page.Utf8.{Before, decoded}
 use Rattle.place_core.specs.page.Words.{kind_of, is_special, is_script_type}
 use Rattle.url_lexer.specs.Classes.{url_class_of}
@@ -39,12 +39,12 @@ block : (read Page (codes "<script type=text/plain>a&lt;<!--</b></script>") star
 unfolding class_of meaning flushed lib.Utf8.encode
 block = refl
 
--- the content of scripts is not read yet
-script : (read Page (codes "<ScRiPt>") start).at ≡ Unread
+-- a script: its content is read by the language
+script : (read Page (codes "<ScRiPt>") start).at ≡ InContent element.Script (InLanguage (languages.start kind.Script)) Nothing
 unfolding class_of meaning flushed lib.Utf8.encode
 script = refl
 
-first_type : (read Page (codes "<script type=module type=x>") start).at ≡ Unread
+first_type : (read Page (codes "<script type=module type=x>") start).at ≡ InContent element.Script (InLanguage (languages.start kind.Script)) Nothing
 unfolding class_of meaning flushed lib.Utf8.encode
 first_type = refl
 

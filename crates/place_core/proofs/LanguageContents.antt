@@ -1,13 +1,8 @@
--- The content of an element that a language reads: bytes one after the other, a byte that is no `<`, and that bytes make of it what they make of a value.
-use Rattle.std.proofs.Common.{◌≡◌, ℕ, Bool, true, false, List, [], ◌∷◌, ◌++◌, refl, ap}
-use Rattle.place_core.specs.page.Classes.{Class, LessThan, class_of}
+-- The content of an element that a language reads: bytes one after the other, and that they make of it what they make of a value.
+use Rattle.std.proofs.Common.{◌≡◌, ℕ, Bool, List, [], ◌∷◌, ◌++◌, refl, ap}
 use Rattle.place_core.specs.page.Events.{LexEvent}
-use Rattle.place_core.specs.page.Html.{read_over}
-use Rattle.place_core.specs.page.States.{LexMode, InContent, InLanguage, Nothing, config}
 use Rattle.place_core.specs.page.Tags.{ValueLanguage, ValueOf, feeding, language_feeding, fed_state, emits_fed, with_bytes, emitted_bytes}
 use Rattle.place_core.specs.place.Errors.{fed_error, first_cause, cause_back}
-use Rattle.place_core.specs.declared.element.Element.{Element}
-use Rattle.place_core.proofs.Readings.{is_own_in_block}
 
 pub fed-append : {B : Type 0} (l : ValueLanguage B) (v : B) (xs ys : List ℕ) → fed_state l v (xs ++ ys) ≡ fed_state l (fed_state l v xs) ys
 fed-append l v [] ys = refl
@@ -31,16 +26,3 @@ pub value-fed-error : {B : Type 0} (l : ValueLanguage B) (v : B) (bs : List ℕ)
 value-fed-error l v [] written back = refl
 value-fed-error l v (b ∷ bs) written back =
     ap (first_cause (cause_back back (l.refuses v b))) (value-fed-error l (l.feed v b) bs written _)
-
-no : false ≡ true → ⊥
-no e = cc
-
-language-class : {B : Type 0} (l : ValueLanguage B) (m : LexMode) (c : Class) (b : ℕ) (e : Element) (v : B) (t : List LexEvent) → class_of b ≡ c
-    → is_own_in_block c ≡ true
-    → read_over l m (b ∷ []) (config (InContent e (InLanguage v) Nothing) t) ≡ config (InContent e (InLanguage (l.feed v b)) Nothing) (l.emits v b t)
-language-class l m LessThan b e v t k h = absurd (no h)
-language-class l m _ b e v t k h = rw k refl
-
-pub language-byte : {B : Type 0} (l : ValueLanguage B) (m : LexMode) (b : ℕ) (e : Element) (v : B) (t : List LexEvent) → is_own_in_block (class_of b) ≡ true
-    → read_over l m (b ∷ []) (config (InContent e (InLanguage v) Nothing) t) ≡ config (InContent e (InLanguage (l.feed v b)) Nothing) (l.emits v b t)
-language-byte l m b e v t h = language-class l m (class_of b) b e v t refl h

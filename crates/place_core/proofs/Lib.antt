@@ -10,7 +10,9 @@ pub mod LanguageContents
 pub mod NotPlain
 pub mod PathExamples
 pub mod PlaceExamples
+pub mod ScriptElementExamples
 pub mod ScriptPathExamples
+pub mod ScriptSteps
 pub mod StyleElementExamples
 pub mod StylePathExamples
 pub mod UrlPathExamples

@@ -93,9 +93,9 @@ second_type_cut : path_refusal (codes "<script type Type") (Text Closed) ≡ Som
 unfolding class_of meaning flushed lib.Utf8.encode
 second_type_cut = refl
 
-script_not_built : path_refusal (codes "<script/>") (Text Closed) ≡ Some (record { code = code.NotBuilt; at = 8; shown = 8 })
+script_closes_itself : path_refusal (codes "<script/>") (Text Closed) ≡ None
 unfolding class_of meaning flushed lib.Utf8.encode
-script_not_built = refl
+script_closes_itself = refl
 
 name_goes_on : path_refusal (codes "x") (at_hole languages (node (codes "<p ") (Text Closed))) ≡ Some (record { code = code.SplitToken; at = 0; shown = 0 })
 unfolding class_of meaning flushed lib.Utf8.encode

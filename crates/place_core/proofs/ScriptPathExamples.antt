@@ -1,5 +1,5 @@
 -- Worked examples of how values that are scripts are read, in a page and on a path, and where what is refused stands, by computing.
-use Rattle.std.proofs.Common.{◌≡◌, ℕ, true, false, List, [], ◌∷◌, codes, Option, Some, None, refl, inr}
+use Rattle.std.proofs.Common.{◌≡◌, ℕ, true, false, List, [], ◌∷◌, codes, Some, None, refl, inr}
 use Rattle.js_lexer.specs.Classes.{class_of}
 use Rattle.js_lexer.specs.Events.{WordBegins, NumberBegins, PunctuatorBegins, StringBegins, RegexpBegins, TemplateBegins, ScriptByte, BracketsBegin}
 use Rattle.js_lexer.specs.Holes.{script_after_cut}

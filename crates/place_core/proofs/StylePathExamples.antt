@@ -2,17 +2,17 @@
 use Rattle.std.proofs.Common.{◌≡◌, ℕ, true, false, List, [], ◌∷◌, codes, Option, Some, None, refl, sym, true≢false}
 use Rattle.css_lexer.specs.Classes.{style_class}
 use Rattle.css_lexer.specs.Escapes.{NoEscape}
-use Rattle.css_lexer.specs.Events.{StyleEvent, RunByte, RunBlank, PunctuationByte, StringBegins, StringByte, StringEnds, UrlBegins, InsideUrl, UrlEnds}
+use Rattle.css_lexer.specs.Events.{RunByte, RunBlank, PunctuationByte, UrlBegins, InsideUrl, UrlEnds}
 use Rattle.css_lexer.specs.States.{DoubleQuote, SingleQuote, SpellsOther, Between, Word, AfterSolidus, Comment, InString, BehindHole, Style, Out}
 use Rattle.css_lexer.specs.States as style
 use Rattle.place_core.specs.page.Classes.{class_of}
-use Rattle.place_core.specs.page.Events.{LexEvent, Mark, InsideStyle, told_in_style}
+use Rattle.place_core.specs.page.Events.{LexEvent, Mark, InsideStyle}
 use Rattle.place_core.specs.page.Html.{read}
-use Rattle.place_core.specs.page.Paths.{Symbol, Written, Hole, read_path}
+use Rattle.place_core.specs.page.Paths.{Written, Hole, read_path}
 use Rattle.place_core.specs.page.Plain.{IsPlain}
 use Rattle.place_core.specs.page.References.{Closed, meaning, flushed}
 use Rattle.place_core.specs.page.States.{Page, LexState, AttributeValue, Config, config}
-use Rattle.place_core.specs.page.Tags.{DoubleQuoted, Unquoted, ValueOf, ValueState, OfStyle, LeadsPlainInStyle, languages, tag_named}
+use Rattle.place_core.specs.page.Tags.{DoubleQuoted, ValueOf, ValueState, OfStyle, LeadsPlainInStyle, languages, tag_named}
 use Rattle.place_core.specs.place.Errors.{RefusesHole, is_unknown_name, is_written, node, path_refusal}
 use Rattle.place_core.specs.place.StatePlaces.{placed, quotes_at}
 use Rattle.place_core.specs.place.StyleParts.{style_tails}

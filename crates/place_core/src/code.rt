@@ -29,6 +29,4 @@ pub enum Code {
     BadString,
     /// A script has `<!--`, `-->` or the like, which browsers read as HTML.
     HtmlInScript,
-    /// This program cannot read this part of a page yet, or cannot write a value of data in it.
-    NotBuilt,
 }

@@ -7,4 +7,5 @@ mod JsonTokens
 mod Left
 mod NotBack
 mod Once
+pub mod WrittenLess
 pub mod WrittenScripts

@@ -13,7 +13,7 @@ use Rattle.place_core.specs.page.Classes.{Class, White, ExclamationMark, Quotati
 use Rattle.place_core.specs.page.Comments.{Declaration, OpensComment, OpensDoctype, Undecided, OpensNothing, declared_by, next_comment, closes_comment}
 use Rattle.place_core.specs.page.Contents.{may_be_name_of, is_name_of, pending_bytes}
 use Rattle.place_core.specs.page.References.{Reference, Closed, Open, ReferenceStep, Grows, Closes, Breaks, turn, reference_turned, as_it_stands, begin_reference, next_reference, plain_bytes, undone_byte}
-use Rattle.place_core.specs.page.States.{CommentState, Started, StartedDash, Inside, Dash, DashDash, Bang, Broken, Pending, Nothing, PendingLess, LessAtCut, PendingName, PendingBang, PendingBangDash}
+use Rattle.place_core.specs.page.States.{CommentState, Started, StartedDash, Inside, Dash, DashDash, Bang, Broken, Pending, Nothing, PendingLess, LessAtCut, PendingName, PendingBang, PendingBangDash, PendingOpening}
 use Rattle.place_core.specs.page.Html.{ends_value}
 use Rattle.place_core.specs.page.Tags.{element_on, feed_bytes, tag_of_name, Value, ValueState, Quoting, DoubleQuoted, SingleQuoted, Unquoted}
 use Rattle.place_core.specs.page.Words.{kind_of}
@@ -38,7 +38,7 @@ use Rattle.std.proofs.Common.{Option, Some, None}
 use Rattle.std.specs.Prelude.{if◌then◌else◌}
 use Rattle.css_step.specs.StyleScans.{StyleScan, ScanSolidus, ScanComment, ScanStarBefore, ScanString, ScanQuotedUrl, is_style_start, style_comment_next, style_scan_next, style_scan_place, style_scan_start}
 use Rattle.css_lexer.specs.States.{DoubleQuote, SingleQuote}
-use Rattle.html_scan.specs.Scans.{bare_leads, empty_style_between, quotes_lead, style_fed, style_feeding, style_scan, value_between, with_style, Scan, At, AfterLess, AfterLessSolidus, InDeclaration, InTagName, InAttributeName, InCommentEnd, InContentEnd, InStyleElement, InUrl, InStyle, InScript, BeforeType, InType, after_type, attribute_name_next, bare_begun, bare_next, before_type_next, bare_white, comment_closed, comment_scan, comment_next, comment_state, content_end_next, content_scan, content_next, declaration_next, doctype_next, element_less_next, element_name_next, element_next, element_scan, end_name_next, ended_type, in_tag, in_type, pending_less_next, bang_next, scan_next, quoted_next, tag_name_next, tag_next, text_scan, type_next, type_tag, value_scan, type_begun, parts_feeding, triple_behind, url_scan, value_fed, with_parts, script_fed_next}
+use Rattle.html_scan.specs.Scans.{bare_leads, empty_style_between, quotes_lead, style_fed, style_feeding, style_scan, value_between, with_style, Scan, At, AfterLess, AfterLessSolidus, InDeclaration, InTagName, InAttributeName, InCommentEnd, InContentEnd, InStyleElement, InScriptElement, InUrl, InStyle, InScript, BeforeType, InType, after_type, attribute_name_next, bare_begun, bare_next, before_type_next, bare_white, comment_closed, comment_scan, comment_next, comment_state, content_end_next, content_scan, content_next, declaration_next, doctype_next, element_less_next, element_name_next, element_next, element_scan, end_name_next, ended_type, in_tag, in_type, pending_less_next, bang_next, scan_next, quoted_next, tag_name_next, tag_next, text_scan, type_next, type_tag, value_scan, type_begun, parts_feeding, triple_behind, url_scan, value_fed, with_parts, script_fed_next}
 use Rattle.url_lexer.specs.Triples.{Triple, NoTriple, AfterPercent, AfterDigit}
 use Rattle.text_norm.specs.Scanned.{comment_scan_out, declaration_open, scan_open, scan_out, scan_writing, style_scan_cut_out, style_scan_out}
 use Rattle.text_norm.specs.Kept.{bears, change_of, comment_change, is_style_comment, end_letters, end_tag_change, in_style_comment, scan_kept, hides, less_kept, reference_kept, solidus_kept, stays, style_change, style_place_comment}
@@ -154,6 +154,7 @@ LawOf change.OpensStyleComment f g r s c b out = OpensStyleBytes f g r s c b out
 LawOf change.EndsStyleComment f g r s c b out = EndsStyleBytes f g r s c b out
 LawOf change.LeavesPending f g r s c b out = LeavesPendingBytes f g r s c b out
 LawOf change.EndsInStyleComment f g r s c b out = EndsInStyleBytes f g r s c b out
+LawOf change.InScript f g r s c b out = Unit {0}
 
 less-no-ampersand : LessThan ≡ Ampersand → ⊥
 less-no-ampersand h = cc
@@ -178,6 +179,7 @@ loose-comment (InStyleElement s LessAtCut) h n = absurd (none-left (solidus_kept
 loose-comment (InStyleElement s (PendingName letters)) h n = absurd (none-left (solidus_kept s) (47 ∷ letters) 60 h)
 loose-comment (InStyleElement s PendingBang) h n = absurd (none-left (solidus_kept s) (33 ∷ []) 60 h)
 loose-comment (InStyleElement s PendingBangDash) h n = absurd (none-left (solidus_kept s) (33 ∷ 45 ∷ []) 60 h)
+loose-comment (InStyleElement s (PendingOpening letters)) h n = absurd (none-left (solidus_kept s) letters 60 h)
 loose-comment g h n = refl
 
 pub no-name : (g : Scan) → less_kept g ≡ [] → list_all is_ascii_alphabetic (end_letters g) ≡ true
@@ -939,6 +941,7 @@ loose-end LessAtCut c b = loose-block c
 loose-end (PendingName letters) c b = loose-end_name (may_be_name_of element.DataBlock (letters ++ b ∷ [])) (is_name_of element.DataBlock letters) c b letters
 loose-end PendingBang c b = loose-bang c
 loose-end PendingBangDash c b = loose-block c
+loose-end (PendingOpening letters) c b = loose-block c
 
 in_block : (h : Pending) (c : Class) (b : ℕ) (r : Reference) → r ≡ Closed
     → KeepsBytes (InContentEnd element.DataBlock h) (content_end_next h c b element.DataBlock) r Closed c b (b ∷ [])
@@ -1267,7 +1270,7 @@ at_place (place.Value v) c b r p closed = in_quotes (At (place.Value v)) (reads-
 at_place (place.Tag t) c b r p closed = without_references (At (place.Tag t)) (tag_next t c b) r c b refl (loose-tag c t b) refl refl refl (closed refl)
 at_place place.Doctype c b r p closed = without_references (At place.Doctype) (doctype_next c) r c b refl (loose-doctype c) refl refl refl (closed refl)
 at_place (place.Comment dash) c b r p closed = leaves c (comment_state dash) (At (place.Comment dash)) r b refl
-at_place (place.Script j) c b r p closed = without_references (At (place.Script j)) (At (place.Script j)) r c b refl (record { less = refl; shown = refl }) refl refl refl (closed refl)
+at_place (place.Script j) c b r p closed = tt
 at_place (place.Style q) c b r p closed = in_element (At (place.Style q)) (style_scan_start q) c b r (reads-start q) p (closed refl)
 at_place (place.Block lt) c b r p closed = without_references (At (place.Block lt)) (content_next c element.DataBlock) r c b refl (loose-block c) refl refl refl (closed refl)
 
@@ -1279,6 +1282,7 @@ at_end e (PendingName letters) c b r i p closed = in_end_name e refl (may_be_nam
 at_end e LessAtCut c b r i p closed = absurd i
 at_end e PendingBang c b r i p closed = absurd i
 at_end e PendingBangDash c b r i p closed = absurd i
+at_end e (PendingOpening letters) c b r i p closed = absurd i
 
 at_style : (h : Pending) (s : StyleScan) (c : Class) (b : ℕ) (r : Reference) → MayEnd h → Spelled c b → (bears (InStyleElement s h) ≡ false → r ≡ Closed) → LawAt (InStyleElement s h) c b r
 at_style Nothing s c b r i p closed = in_element (InStyleElement s Nothing) s c b r (reads-element s Nothing) p (closed refl)
@@ -1287,6 +1291,7 @@ at_style (PendingName letters) s c b r i p closed = in_style_name s (may_be_name
 at_style LessAtCut s c b r i p closed = absurd i
 at_style PendingBang s c b r i p closed = absurd i
 at_style PendingBangDash s c b r i p closed = absurd i
+at_style (PendingOpening letters) s c b r i p closed = absurd i
 
 pub law : (f : Scan) (c : Class) (b : ℕ) (r : Reference) → IsRead f → Spelled c b → (bears f ≡ false → r ≡ Closed) → LawAt f c b r
 law (At q) c b r i p closed = at_place q c b r p closed
@@ -1298,6 +1303,7 @@ law (InAttributeName t typed name) c b r i p closed = without_references (InAttr
 law (InCommentEnd s) c b r i p closed = leaves c s (InCommentEnd s) r b refl
 law (InContentEnd e h) c b r i p closed = at_end e h c b r i p closed
 law (InStyleElement s h) c b r i p closed = at_style h s c b r i p closed
+law (InScriptElement n h) c b r i p closed = tt
 law (InUrl v t z) c b r i p closed = in_quotes (InUrl v t z) (reads-url v t z) v.quotes c b v t z r p
 law (InStyle v s z) c b r i p closed = in_style v.quotes (InStyle v s z) (reads-style v s z) c b v s z r p
 law (InScript v n z) c b r i p closed = in_script v.quotes (InScript v n z) (reads-script v n z) c b v n z r p

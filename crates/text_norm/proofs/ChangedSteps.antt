@@ -107,7 +107,7 @@ left_out text index y inside reference done named loose cut = record {
   named = named;
   done = omega (arith, done);
   closed = λ h. ap (reference_view text) reference;
-  hidden = λ h. done;
+  hidden = λ h. refl;
   alone = λ h. refl;
   letters = no-name (scan_of text (index + 1) y) loose;
   cut = λ h. subst (IsCharBoundary text) (sym done) (cut h);
@@ -123,12 +123,8 @@ opens text index x y old new kept inside scan is reference named done wrote =
       bytes = append-nil new ∙ wrote ∙ ap (λ (xs : List ℕ). old ++ (kept.free ++ xs)) (sym here.out);
     }
 
-empty : (xs ys : List ℕ) → xs ++ ys ≡ [] → xs ≡ []
-empty [] ys h = refl
-empty (a ∷ xs) ys h = cc
-
 nothing_free : (text : List ℕ) (index : ℕ) (x : WriteProgress) (kept : IsProgressKept text index x) → (hides (scan_of text index x) ≡ true) ⊎ (in_style_comment (scan_of text index x) ≡ true) → kept.free ≡ []
-nothing_free text index x kept (inl h) = empty kept.free (as_it_stands (reference_of text x) ++ less_kept (scan_of text index x)) (kept.parts ∙ ap (λ (d : ℕ). pending text d index) (kept.hidden h) ∙ pending_nothing text index)
+nothing_free text index x kept (inl h) = kept.hidden h
 nothing_free text index x kept (inr h) = kept.alone h
 
 pub leaves : (text : List ℕ) (index : ℕ) (x y : WriteProgress) (out : List ℕ) (kept : IsProgressKept text index x) → index < length text → IsUtf8 text → scan_of text (index + 1) y ≡ next_of text index x → change.LeavesOut ≡ change_of (scan_of text index x) (scan_of text (index + 1) y) → y.reference ≡ None → pending_from y.scan ≤ index + 1 → y.done ≡ index + 1 → ProgressReads text index x y kept.free out out

@@ -5,12 +5,12 @@ use Rattle.place_core.specs.page.Contents.{next_in_content, emits_in_content, ne
 use Rattle.place_core.specs.place.Errors.{block_byte_error}
 use Rattle.place_core.specs.page.Events.{LexEvent, event_text_bytes}
 use Rattle.place_core.specs.page.References.{Reference, Closed, Open, as_it_stands, next_reference, settled, undone_byte}
-use Rattle.place_core.specs.page.States.{Characters, Bytes, Pending, Nothing, PendingLess, LessAtCut, PendingName, PendingBang, PendingBangDash, InContent, Config, config}
+use Rattle.place_core.specs.page.States.{Characters, Bytes, Pending, Nothing, PendingLess, LessAtCut, PendingName, PendingBang, PendingBangDash, PendingOpening, InContent, Config, config}
 use Rattle.place_core.specs.page.Tags.{ValueLanguage, ValueState}
 use Rattle.place_core.specs.declared.element.Element.{Element}
 use Rattle.place_core.proofs.Readings.{text_bytes-append}
 use Rattle.html_step.proofs.OnePath.{some}
-use Rattle.text_norm.specs.Standing.{PendingContentLess, PendingEndName, TextStands, StandsIn, StandsInContent, pending_in_page, standing_content, page}
+use Rattle.text_norm.specs.Standing.{PendingContentLess, PendingEndName, TextStands, StandsIn, StandsInContent, standing_content, page}
 use Rattle.text_norm.specs.Written.{content_less_out, content_out, end_name_out, loose_out, reference_out}
 use Rattle.text_norm.proofs.Places.{content-run, content-since}
 use Rattle.text_norm.proofs.Runs.{follows-run, lt-read, on}
@@ -94,6 +94,7 @@ in-content x e (Open f bytes) (PendingName letters) c b t d k h = absurd h
 in-content x e r LessAtCut c b t d k h = absurd h
 in-content x e r PendingBang c b t d k h = absurd h
 in-content x e r PendingBangDash c b t d k h = absurd h
+in-content x e r (PendingOpening letters) c b t d k h = absurd h
 
 -- A data block. Nothing of it is written otherwise, so the page is always where the path is.
 loose-block : (x : ValueLanguage ValueState) (e : Element) (c : Class) (b : ℕ) (u : List LexEvent) (d : Config ValueState) → d ≡ config (next_loose x c b e Bytes) u → TextStands x (next_loose x c b e Bytes) u d
@@ -120,7 +121,7 @@ bang-block x e LessThan b u d h = h
 bang-block x e c b u d h = h
 
 pub in-block : (x : ValueLanguage ValueState) (e : Element) (pending : Pending) (c : Class) (b : ℕ) (t : List LexEvent) (d : Config ValueState) → class_of b ≡ c → block_byte_error pending c ≡ None
-    → d ≡ config (InContent e Bytes (pending_in_page pending)) t
+    → StandsInContent x e Bytes pending t d
     → TextStands x (next_in_content x pending c b e Bytes) (emits_in_content x pending c b e Bytes t) (page x (b ∷ []) d)
 in-block x e Nothing c b t d k n h = loose-block x e c b (emits_in_content x Nothing c b e Bytes t) (page x (b ∷ []) d) (rw (h, k) refl)
 in-block x e PendingLess c b t d k n h = less-block x e c b (emits_in_content x PendingLess c b e Bytes t) (page x (b ∷ []) d) (rw (h, k) refl)
@@ -131,3 +132,4 @@ in-block x e (PendingName letters) c b t d k n h =
     end-block x e (may_be_name_of e (letters ++ b ∷ [])) (is_name_of e letters) letters c b (emits_in_content x (PendingName letters) c b e Bytes t) (page x (b ∷ []) d) (rw (h, k) refl)
 in-block x e PendingBang c b t d k n h = bang-block x e c b (emits_in_content x PendingBang c b e Bytes t) (page x (b ∷ []) d) (rw (h, k) refl)
 in-block x e PendingBangDash c b t d k n h = loose-block x e c b (emits_in_content x PendingBangDash c b e Bytes t) (page x (b ∷ []) d) (rw (h, k) refl)
+in-block x e (PendingOpening letters) c b t d k n h = absurd h

@@ -1,23 +1,23 @@
 -- Two emitted lists in a relation that each event of HTML keeps stay in it while the same bytes are read from states that are the same, but for
 -- those of a value's language, which brings what it emits.
-use Rattle.std.proofs.Common.{ℕ, Bool, true, false, codes, List, [], ◌∷◌, ◌++◌, subst, sym}
+use Rattle.std.proofs.Common.{ℕ, Bool, true, false, codes, List, [], ◌∷◌, ◌++◌, subst, sym, if◌then◌else◌}
 use Rattle.std.specs.Char.{to_ascii_lowercase}
 use Rattle.place_core.specs.page.Classes.{Class, White, ExclamationMark, QuotationMark, Apostrophe, HyphenMinus, Solidus, LessThan, EqualsSign, GreaterThan, QuestionMark, Letter, class_of}
 use Rattle.place_core.specs.page.Comments.{Declaration, OpensComment, OpensDoctype, Undecided, OpensNothing, declared_by, emits_doctype}
-use Rattle.place_core.specs.page.Contents.{content_after, content_bytes, content_ends, pending_bytes, emits_content_cut, is_name_of, may_be_name_of, emits_bang, emits_bang_dash, emits_closed, emits_content, emits_end_name, emits_in_content, emits_less, emits_loose}
+use Rattle.place_core.specs.page.Contents.{content_after, content_bytes, content_ends, pending_bytes, emits_content_cut, is_name_of, may_be_name_of, emits_bang, emits_bang_dash, emits_closed, emits_content, emits_end_name, emits_in_content, emits_less, emits_loose, ScriptStep, Reads, EndsContent, script_step, ends_here, emits_behind_end_tag, emits_by_step, emits_content_in, emits_escape}
 use Rattle.css_lexer.specs.Events.{InsideUrl}
-use Rattle.place_core.specs.page.Events.{LexEvent, InsideStyle, AttributeBegins, AttributeNameByte, AttributeNameEnds, BlockByte, Comment, DoctypeBegins, DoctypeByte, DoctypeEnds, EndTagBegins, Escape, Mark, StartTagBegins, TagEnds, TagNameByte, TextByte, UnreadByte, ValueByte, ValueScheme, block_bytes, doctype_bytes, tag_name_bytes, event_text_bytes}
+use Rattle.place_core.specs.page.Events.{LexEvent, InsideStyle, AttributeBegins, AttributeNameByte, AttributeNameEnds, BlockByte, Comment, DoctypeBegins, DoctypeByte, DoctypeEnds, EndTagBegins, Escape, Mark, StartTagBegins, TagEnds, TagNameByte, TextByte, ValueByte, ValueScheme, block_bytes, doctype_bytes, tag_name_bytes, event_text_bytes}
 use Rattle.place_core.specs.page.Html.{byte_over, ends_value, read_over, emits, emits_after_name, emits_after_value, emits_before_name, emits_before_value, emits_bogus, emits_comment, emits_declaration, emits_end_tag_open, emits_name, emits_self_closing, emits_tag_name, emits_tag_open, emits_text, emits_value, emits_whole_name}
 use Rattle.place_core.specs.page.Paths.{read_node, emits_cut}
 use Rattle.place_core.specs.page.References.{Reference, Closed, as_it_stands, settled, undone_byte}
-use Rattle.place_core.specs.page.States.{AfterAttributeName, AfterAttributeValue, AttributeName, AttributeValue, BeforeAttributeName, BeforeAttributeValue, BogusComment, Bytes, Characters, Content, InLanguage, DeclarationOpen, EndTagOpen, Pending, PendingBang, PendingBangDash, PendingLess, LessAtCut, PendingName, InComment, InContent, InDoctype, Nothing, Page, LexMode, SelfClosingStartTag, LexState, TagName, TagOpen, Template, Text, Unread, WholeAttributeName, WholeTagName, Config}
+use Rattle.place_core.specs.page.States.{AfterAttributeName, AfterAttributeValue, AttributeName, AttributeValue, BeforeAttributeName, BeforeAttributeValue, BogusComment, Bytes, Characters, Content, InLanguage, DeclarationOpen, EndTagOpen, Pending, PendingBang, PendingBangDash, PendingLess, LessAtCut, PendingName, InComment, InContent, InDoctype, Nothing, Page, LexMode, SelfClosingStartTag, LexState, TagName, TagOpen, Template, Text, WholeAttributeName, WholeTagName, Config, PendingOpening}
 use Rattle.place_core.specs.page.Tags.{ValueLanguage, Quoting, Unquoted, Deciding, ValueOf, element_on, emitted_bytes, emitted_end, emits_fed, fed_state, attribute_value_of, with_bytes}
 use Rattle.place_core.specs.page.Words.{kind_of}
 use Rattle.place_core.specs.declared.element.Element.{Element}
 use Rattle.place_core.specs.declared.kind.Kind.{Kind}
 use Rattle.place_core.specs.declared.kind.Kind.TheVariants as kind
 use Rattle.url_lexer.specs.Events.{UrlEnds}
-use Rattle.text_norm.proofs.StatesBeside.{IsFedAlike, IsOutside, NoLanguage, StandBeside, cut-beside, fed-state-beside, next-beside}
+use Rattle.text_norm.proofs.StatesBeside.{IsFedAlike, IsOutside, NoLanguage, StandBeside, cut-beside, fed-state-beside, may-end-beside, next-beside}
 
 -- an event that HTML emits by itself: neither a mark nor what the end of a URL tells
 abbrev pub IsOwn : LexEvent → Type 0
@@ -193,6 +193,7 @@ module _ (F : List LexEvent → List LexEvent → Type 0) (keep : (e : LexEvent)
         end-name (may_be_name_of e (letters ++ b ∷ [])) (is_name_of e letters) c b y letters t u n f
     in-content PendingBang c b e y t u n f = bang c b y t u n f
     in-content PendingBangDash c b e y t u n f = bang-dash c b y t u n f
+    in-content (PendingOpening letters) c b e y t u n f = behind c b y (codes "<" ++ letters) t u n f
 
     cut-content : (y : Content B) (h : Pending) (t u : List LexEvent) → NoLanguage y → F t u → F (emits_content_cut x y h t) (emits_content_cut x y h u)
     cut-content (Characters r) h t u n f = texts (pending_bytes h) _ _ (texts (as_it_stands r) t u f)
@@ -279,6 +280,36 @@ module _ (F : List LexEvent → List LexEvent → Type 0) (keep : (e : LexEvent)
     language-emits (PendingName letters) c b e v w t u a f = name-emits (may_be_name_of e (letters ++ b ∷ [])) (is_name_of e letters) c b letters v w t u a f
     language-emits PendingBang c b e v w t u a f = bang-emits c b v w t u a f
     language-emits PendingBangDash c b e v w t u a f = dash-emits c b v w t u a f
+    language-emits (PendingOpening letters) c b e v w t u a f = behind-emits c b (codes "<" ++ letters) v w t u a f
+
+    -- in a script, by the step that both make
+    behind-tag-emits : (c : Class) (t u : List LexEvent) → F t u → F (emits_behind_end_tag c t) (emits_behind_end_tag c u)
+    behind-tag-emits GreaterThan t u f = keep (TagEnds false) t u tt f
+    behind-tag-emits _ t u f = f
+
+    step-emits : (k : ScriptStep) (c : Class) (v w : B) (t u : List LexEvent) → Related v w → F t u → F (emits_by_step x k c v t) (emits_by_step x k c w u)
+    step-emits (Reads bytes h) c v w t u a f = fed-emits bytes v w t u a f
+    step-emits (EndsContent letters) c v w t u a f = behind-tag-emits c _ _ (tag-names letters _ _ (keep EndTagBegins _ _ tt (own.ends v w t u a f)))
+
+    escape-emits : (m : LexMode) (h : Pending) (c : Class) (t u : List LexEvent) → F t u → F (emits_escape m h c t) (emits_escape m h c u)
+    escape-emits Page PendingBangDash HyphenMinus t u f = keep Escape t u tt f
+    escape-emits m h c t u f = f
+
+    either-emits : (script may : Bool) (m : LexMode) (h : Pending) (c : Class) (b : ℕ) (e : Element) (v w : B) (t u : List LexEvent) → Related v w → F t u
+        → F (if script then emits_escape m h c (emits_by_step x (script_step may e h c b) c v t) else emits_in_content x h c b e (InLanguage v) t)
+        (if script then emits_escape m h c (emits_by_step x (script_step may e h c b) c w u) else emits_in_content x h c b e (InLanguage w) u)
+    either-emits true may m h c b e v w t u a f = escape-emits m h c _ _ (step-emits (script_step may e h c b) c v w t u a f)
+    either-emits false may m h c b e v w t u a f = language-emits h c b e v w t u a f
+
+    pub content-emits : (m : LexMode) (h : Pending) (c : Class) (b : ℕ) (e : Element) (v w : B) (t u : List LexEvent) → Related v w → F t u
+        → F (emits_content_in x m h c b e (InLanguage v) t) (emits_content_in x m h c b e (InLanguage w) u)
+    content-emits m h c b e v w t u a f =
+        let from = emits_content_in x m h c b e (InLanguage v) t in
+        let other = emits_in_content x h c b e (InLanguage w) u in
+        subst (λ (i : Bool). F from (if i then emits_escape m h c (emits_by_step x (script_step (ends_here x m w) e h c b) c w u) else other)) (own.fed.scripts v w a)
+        (subst (λ (g : Bool). F from (if x.is_script v then emits_escape m h c (emits_by_step x (script_step g e h c b) c w u) else other))
+        (may-end-beside B x Related own.fed m v w a)
+        (either-emits (x.is_script v) (ends_here x m v) m h c b e v w t u a f))
 
     -- a value that begins
     begun-end : (k : Kind) (t u : List LexEvent) → F t u → F (emitted_end x (attribute_value_of x k) t) (emitted_end x (attribute_value_of x k) u)
@@ -328,7 +359,6 @@ module _ (F : List LexEvent → List LexEvent → Type 0) (keep : (e : LexEvent)
     self-emits m (InContent e (Characters r) h) c b t u o f = in-content B x h c b e (Characters r) t u tt f
     self-emits m (InContent e Bytes h) c b t u o f = in-content B x h c b e Bytes t u tt f
     self-emits m (InContent e (InLanguage v) h) c b t u o f = absurd o
-    self-emits m Unread c b t u o f = keep (UnreadByte b) t u tt f
 
     -- a byte, from one beside the other
     pub emits-alike : (m : LexMode) (s z : LexState B) (c : Class) (b : ℕ) (t u : List LexEvent) → StandBeside Related s z → F t u
@@ -337,7 +367,7 @@ module _ (F : List LexEvent → List LexEvent → Type 0) (keep : (e : LexEvent)
         subst (λ (y : LexState B). F (emits x m (AttributeValue q tag (ValueOf v) r) c b t) (emits x m y c b u)) (sym a.1)
         (in-value (ends_value q c) q c b v a.0 r t u a.2 f)
     emits-alike m (InContent e (InLanguage v) h) z c b t u a f =
-        subst (λ (y : LexState B). F (emits x m (InContent e (InLanguage v) h) c b t) (emits x m y c b u)) (sym a.1) (language-emits h c b e v a.0 t u a.2 f)
+        subst (λ (y : LexState B). F (emits x m (InContent e (InLanguage v) h) c b t) (emits x m y c b u)) (sym a.1) (content-emits m h c b e v a.0 t u a.2 f)
     emits-alike m s z c b t u a f = subst (λ (y : LexState B). F (emits x m s c b t) (emits x m y c b u)) (sym a) (self-emits m s c b t u tt f)
 
     -- a node's end

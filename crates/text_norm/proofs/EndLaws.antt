@@ -4,12 +4,12 @@ use Rattle.std.proofs.lemmas.List.{append_assoc}
 use Rattle.css_step.specs.StyleScans.{StyleScan}
 use Rattle.place_core.specs.page.Contents.{pending_bytes}
 use Rattle.place_core.specs.page.References.{Reference, Closed, as_it_stands}
-use Rattle.place_core.specs.page.States.{Pending, PendingLess, LessAtCut, PendingName, PendingBang, PendingBangDash, Nothing}
+use Rattle.place_core.specs.page.States.{Pending, PendingLess, LessAtCut, PendingName, PendingBang, PendingBangDash, PendingOpening, Nothing}
 use Rattle.place_core.specs.declared.css.Css.{Css}
 use Rattle.place_core.specs.declared.css.Css.TheVariants as css
 use Rattle.place_core.specs.declared.element.Element.TheVariants as element
 use Rattle.place_core.specs.declared.place.Place.TheVariants as place
-use Rattle.html_scan.specs.Scans.{Scan, At, AfterLess, AfterLessSolidus, InDeclaration, InTagName, InAttributeName, InCommentEnd, InContentEnd, InStyleElement, InUrl, InStyle, InScript, BeforeType, InType}
+use Rattle.html_scan.specs.Scans.{Scan, At, AfterLess, AfterLessSolidus, InDeclaration, InTagName, InAttributeName, InCommentEnd, InContentEnd, InStyleElement, InScriptElement, InUrl, InStyle, InScript, BeforeType, InType}
 use Rattle.text_norm.specs.Scanned.{scan_cut_out}
 use Rattle.text_norm.specs.Kept.{IsProgressKept, bears, is_style_comment, ending_of, in_style_comment, scan_of, hides, less_kept, reference_of, style_ending}
 use Rattle.text_norm.specs.Written.{text_escaped}
@@ -50,6 +50,7 @@ EndLaw ending.BehindLess f r = EndsBehindLess f r
 EndLaw ending.InComment f r = EndsInComment f r
 EndLaw ending.InStyle f r = EndsInStyle f r
 EndLaw ending.InStyleComment f r = EndsInStyleComment f r
+EndLaw ending.InScript f r = Unit {0}
 
 style_end : (p : Css) (r : Reference) → r ≡ Closed → EndLaw (ending_of (At (place.Style p))) (At (place.Style p)) r
 style_end (css.Comment true) r h = record { out = refl; comment = refl }
@@ -67,7 +68,7 @@ end_law (At (place.Value v)) r i h = record { out = refl; less = refl; shown = r
 end_law (At (place.Tag t)) r i h = record { out = refl; less = refl; shown = refl }
 end_law (At place.Doctype) r i h = record { out = refl; less = refl; shown = refl }
 end_law (At (place.Comment dash)) r i h = record { out = rw (h refl) refl; hidden = refl }
-end_law (At (place.Script s)) r i h = record { out = refl; less = refl; shown = refl }
+end_law (At (place.Script s)) r i h = tt
 end_law (At (place.Style p)) r i h = style_end p r (h refl)
 end_law (At (place.Block s)) r i h = record { out = refl; less = refl; shown = refl }
 end_law AfterLess r i h = record { more = []; less = refl; out = refl; shown = refl }
@@ -83,7 +84,9 @@ end_law (InContentEnd e (PendingName letters)) r i h = record { more = codes "/"
 end_law (InContentEnd e LessAtCut) r i h = absurd i
 end_law (InContentEnd e PendingBang) r i h = absurd i
 end_law (InContentEnd e PendingBangDash) r i h = absurd i
+end_law (InContentEnd e (PendingOpening letters)) r i h = absurd i
 end_law (InStyleElement s p) r i h = element_end (is_style_comment s) s p r refl (fed-pending p (is_style_comment s) s i refl) (h refl)
+end_law (InScriptElement n p) r i h = tt
 end_law (InUrl v t z) r i h = record { out = refl; less = refl; shown = refl }
 end_law (InStyle v s z) r i h = record { out = refl; less = refl; shown = refl }
 end_law (InScript v n z) r i h = record { out = refl; less = refl; shown = refl }

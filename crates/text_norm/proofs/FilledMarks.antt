@@ -8,7 +8,7 @@ use Rattle.js_lexer.specs.Events.{ScriptEvent}
 use Rattle.js_lexer.specs.Feeding.{script_emits, script_ends}
 use Rattle.page_datum.specs.Data.{Data}
 use Rattle.page_datum.specs.Printed.{printed}
-use Rattle.place_core.specs.page.Events.{AttributeBegins, AttributeNameByte, BlockByte, InsideStyle, LexEvent, Mark, TextByte, ValueByte, attribute_name_bytes, block_bytes, event_text_bytes, told_in_script, value_bytes}
+use Rattle.place_core.specs.page.Events.{AttributeBegins, AttributeNameByte, BlockByte, InsideStyle, LexEvent, Mark, TextByte, ValueByte, attribute_name_bytes, block_bytes, event_text_bytes, told_in_script, value_bytes, Escape}
 use Rattle.place_core.specs.page.Classes.{class_of}
 use Rattle.place_core.specs.page.Html.{emits, next, read, read_over}
 use Rattle.place_core.specs.place.Errors.{node, states}
@@ -17,9 +17,9 @@ use Rattle.place_core.specs.place.UrlParts.{parts_of}
 use Rattle.place_core.specs.page.Paths.{at_cut, at_hole, mark_in, read_node}
 use Rattle.place_core.specs.page.Shape.{marked, state_past_hole}
 use Rattle.place_core.specs.page.Plain.{settled_state}
-use Rattle.place_core.specs.page.States.{AfterAttributeName, AfterAttributeValue, AttributeName, AttributeValue, BeforeAttributeName, BeforeAttributeValue, Bytes, Characters, Config, InContent, InLanguage, LexState, Nothing, Page, Pending, PendingLess, SelfClosingStartTag, Template, Text, config}
+use Rattle.place_core.specs.page.States.{AfterAttributeName, AfterAttributeValue, AttributeName, AttributeValue, BeforeAttributeName, BeforeAttributeValue, Bytes, Characters, Config, InContent, InLanguage, LexState, Nothing, Page, Pending, PendingLess, SelfClosingStartTag, Template, Text, config, PendingOpening}
 use Rattle.place_core.specs.page.References.{Closed}
-use Rattle.place_core.specs.page.Tags.{DoubleQuoted, Quoting, SingleQuoted, Tag, Unquoted, Value, ValueOf, ValueState, OfKind, OfUrl, OfStyle, OfScript, emits_state, emitted_bytes, ends_state, feed_value, languages, value_start}
+use Rattle.place_core.specs.page.Tags.{DoubleQuoted, Quoting, SingleQuoted, Tag, Unquoted, Value, ValueOf, ValueState, OfKind, OfUrl, OfStyle, OfScript, emits_state, emitted_bytes, ends_state, feed_value, languages, value_start, value_is_script}
 use Rattle.place_core.specs.declared.element.Element.{Element}
 use Rattle.place_core.specs.declared.kind.Kind.{Kind}
 use Rattle.place_core.specs.declared.kind.Kind.TheVariants as kind
@@ -110,12 +110,52 @@ raw-ends vs (OfScript s) (OfKind k) t u a = absurd a.0
 raw-ends vs (OfScript s) (OfUrl z) t u a = absurd a.0
 raw-ends vs (OfScript s) (OfStyle r) t u a = absurd a.0
 
+-- `<!--` is told alike; and both are scripts, or none is
+raw-escapes : (vs : List Filling) (v w : ValueState) (t u : List LexEvent) → value_is_script v ≡ true → RawFilled vs v w t u
+    → RawFilled vs v w (Escape ∷ t) (Escape ∷ u)
+raw-escapes vs (OfScript s) (OfScript r) t u i a = (a.0, fills-keep vs Escape t u tt a.1)
+raw-escapes vs (OfScript s) (OfKind k) t u i a = absurd a.0
+raw-escapes vs (OfScript s) (OfUrl z) t u i a = absurd a.0
+raw-escapes vs (OfScript s) (OfStyle r) t u i a = absurd a.0
+raw-escapes vs (OfKind k) w t u i a = absurd (true≢false (sym i))
+raw-escapes vs (OfUrl z) w t u i a = absurd (true≢false (sym i))
+raw-escapes vs (OfStyle s) w t u i a = absurd (true≢false (sym i))
+
+raw-scripts : (vs : List Filling) (v w : ValueState) (t u : List LexEvent) → RawFilled vs v w t u → value_is_script v ≡ value_is_script w
+raw-scripts vs (OfKind k) w t u a = sym (ap value_is_script a.0)
+raw-scripts vs (OfUrl z) (OfUrl y) t u a = refl
+raw-scripts vs (OfUrl z) (OfKind k) t u a = absurd a.0
+raw-scripts vs (OfUrl z) (OfStyle r) t u a = absurd a.0
+raw-scripts vs (OfUrl z) (OfScript r) t u a = absurd a.0
+raw-scripts vs (OfStyle s) (OfStyle r) t u a = refl
+raw-scripts vs (OfStyle s) (OfKind k) t u a = absurd a.0
+raw-scripts vs (OfStyle s) (OfUrl z) t u a = absurd a.0
+raw-scripts vs (OfStyle s) (OfScript r) t u a = absurd a.0
+raw-scripts vs (OfScript s) (OfScript r) t u a = refl
+raw-scripts vs (OfScript s) (OfKind k) t u a = absurd a.0
+raw-scripts vs (OfScript s) (OfUrl z) t u a = absurd a.0
+raw-scripts vs (OfScript s) (OfStyle r) t u a = absurd a.0
+
+raw-stays : (v : ValueState) (b : ℕ) → value_is_script (feed_value v b) ≡ value_is_script v
+raw-stays (OfKind k) b = refl
+raw-stays (OfUrl z) b = refl
+raw-stays (OfStyle s) b = refl
+raw-stays (OfScript s) b = refl
+
 pub raw-reads : (vs : List Filling) → ReadsBeside ValueState languages (Filled vs) (RawFilled vs)
-raw-reads vs = record { keeps = fills-keep vs; starts = raw-starts vs; feeds = raw-feeds vs; ends = raw-ends vs }
+raw-reads vs = record {
+  keeps = fills-keep vs;
+  starts = raw-starts vs;
+  feeds = raw-feeds vs;
+  ends = raw-ends vs;
+  escapes = raw-escapes vs;
+  scripts = raw-scripts vs;
+  stays = raw-stays;
+}
 
 -- Where the page's reading of bytes alone stands, beside its reading with marks.
 abbrev pub RawStands : List Filling → Config ValueState → Config ValueState → Type 0
-RawStands vs m d = Beside (Filled vs) (RawFilled vs) m.at d.at m.emitted d.emitted
+RawStands vs m d = Beside languages (Filled vs) (RawFilled vs) m.at d.at m.emitted d.emitted
 
 pub raw-text : (vs : List Filling) (bytes : List ℕ) (m d : Config ValueState) → RawStands vs m d
     → RawStands vs (read Page bytes m) (read Page bytes d)
@@ -146,11 +186,11 @@ pub record SolidusPending (e : Element) (held : Pending) (d settled : Config Val
 
 -- or a `<` before the hole, which the reading with marks has told. There the path takes no `/`.
 pub record LessPending (e : Element) (d settled : Config ValueState) : Type 0 where
-  pub there : ValueState
+  pub there : Style Url
   pub told : List LexEvent
-  pub raw : d ≡ config (in_element e there PendingLess) told
-  pub leads : languages.feed there 60 ≡ OfStyle (Out AfterLessThan)
-  pub is_settled : settled ≡ config (in_element e (OfStyle (Out AfterLessThan)) Nothing) (languages.emits there 60 told)
+  pub raw : d ≡ config (in_element e (OfStyle there) PendingLess) told
+  pub leads : languages.feed (OfStyle there) 60 ≡ OfStyle (Out AfterLessThan)
+  pub is_settled : settled ≡ config (in_element e (OfStyle (Out AfterLessThan)) Nothing) (languages.emits (OfStyle there) 60 told)
 
 abbrev pub SolidusIf : Bool → Element → Config ValueState → Config ValueState → Type 0
 SolidusIf true e d settled = SolidusPending e Nothing d settled
@@ -220,10 +260,11 @@ stands-outside (AttributeValue q tag (ValueOf (OfScript s)) Closed) t m n l = ap
 stands-outside (AfterAttributeValue tag) t m n l = ap (λ (c : Config ValueState). is_in_language c.at) l
 stands-outside (SelfClosingStartTag tag) t m n l = ap (λ (c : Config ValueState). is_in_language c.at) l
 stands-outside (InContent e (Characters Closed) Nothing) t m n l = ap (λ (c : Config ValueState). is_in_language c.at) l
+stands-outside (InContent e Bytes (PendingOpening letters)) t m n l = absurd l
 stands-outside (InContent e Bytes h) t m n l = ap (λ (c : Config ValueState). is_in_language c.at) l
 stands-outside _ t m n l = absurd n
 
-same-kind-of-state : (vs : List Filling) (s z : LexState ValueState) (t u : List LexEvent) → Beside (Filled vs) (RawFilled vs) s z t u
+same-kind-of-state : (vs : List Filling) (s z : LexState ValueState) (t u : List LexEvent) → Beside languages (Filled vs) (RawFilled vs) s z t u
     → is_in_language z ≡ is_in_language s
 same-kind-of-state vs (AttributeValue q tag (ValueOf v) r) z t u a = ap is_in_language a.1
 same-kind-of-state vs (InContent e (InLanguage v) h) z t u a = ap is_in_language a.2
@@ -295,7 +336,7 @@ pub led : (vs : List Filling) (m d c k : Config ValueState) → m ≡ c → d �
 led vs m d c k e h r = subst (λ (z : Config ValueState). RawStands vs z d) (sym e) (subst (RawStands vs c) (sym h) r)
 
 -- outside of values both are in the path's state
-same-outside : (vs : List Filling) (s z : LexState ValueState) (t u : List LexEvent) → IsOutside s → Beside (Filled vs) (RawFilled vs) s z t u
+same-outside : (vs : List Filling) (s z : LexState ValueState) (t u : List LexEvent) → IsOutside s → Beside languages (Filled vs) (RawFilled vs) s z t u
     → (z ≡ s) × Fills t vs u
 same-outside vs (AttributeValue q tag (ValueOf v) r) z t u o a = absurd o
 same-outside vs (InContent e (InLanguage v) h) z t u o a = absurd o

@@ -12,7 +12,7 @@ use Rattle.place_core.specs.page.Html.{read, start}
 use Rattle.place_core.specs.page.Paths.{Hole, Symbol, Written, at_hole, mark_in, read_node, read_path}
 use Rattle.place_core.specs.page.References.{Closed, Open, Reference}
 use Rattle.place_core.specs.page.States.{AfterAttributeName, AfterAttributeValue, AttributeValue, BeforeAttributeName, BeforeAttributeValue, Bytes, Characters, Config, Content, InContent, InLanguage, LexState, Nothing, Page, Pending, SelfClosingStartTag, Text, config}
-use Rattle.place_core.specs.page.Tags.{DoubleQuoted, Quoting, SingleQuoted, Tag, Deciding, Unquoted, Value, ValueOf, ValueState, OfKind, OfUrl, OfStyle, OfScript, attribute_value_of, emits_state, emits_value_settled, emitted_hole, emitted_settled, ends_state, has_mark_in, holed_value, languages, mark_if, with_bytes}
+use Rattle.place_core.specs.page.Tags.{DoubleQuoted, Quoting, SingleQuoted, Tag, Deciding, Unquoted, Value, ValueOf, ValueState, OfKind, OfUrl, OfStyle, OfScript, attribute_value_of, emits_state, emits_value_settled, emitted_hole, emitted_settled, ends_state, has_mark_in, holed_value, languages, mark_if, with_bytes, value_is_script, value_may_end, value_after_cut, feed_value}
 use Rattle.place_core.specs.place.Errors.{node}
 use Rattle.place_core.specs.declared.element.Element.{Element}
 use Rattle.place_core.specs.declared.kind.Kind.{Kind}
@@ -444,21 +444,27 @@ byte-marks (OfUrl u) b t = refl
 byte-marks (OfStyle s) b t = told-marks (style_emits urls s b []) t
 byte-marks (OfScript s) b t = script-marks (script_emits s b []) t
 
-marks-emits : (n : ℕ) → EmitsAlike ValueState languages (λ v w. Unit {0}) (λ t u. marks t ≡ n)
+marks-emits : (n : ℕ) → EmitsAlike ValueState languages (λ v w. v ≡ w) (λ t u. marks t ≡ n)
 marks-emits n = record {
-  fed = record { starts = λ k. tt; feeds = λ v w b a. tt; cuts = λ v w a. tt };
+  fed = record {
+    starts = λ k. refl;
+    feeds = λ v w b a. ap (λ (z : ValueState). feed_value z b) a;
+    cuts = λ v w a. ap value_after_cut a;
+    scripts = λ v w a. ap value_is_script a;
+    may_ends = λ v w a. ap value_may_end a;
+  };
   emits = λ v w b t u a f. byte-marks v b t ∙ f;
   ends = λ v w t u a f. same-marks v t ∙ f;
 }
 
-beside-itself : (s : LexState ValueState) → StandBeside (λ v w. Unit {0}) s s
-beside-itself (AttributeValue q tag (ValueOf v) r) = (v, refl, tt)
-beside-itself (InContent e (InLanguage v) h) = (v, refl, tt)
+beside-itself : (s : LexState ValueState) → StandBeside (λ v w. v ≡ w) s s
+beside-itself (AttributeValue q tag (ValueOf v) r) = (v, refl, refl)
+beside-itself (InContent e (InLanguage v) h) = (v, refl, refl)
 beside-itself _ = refl
 
 node-marks : (bytes : List ℕ) (s : LexState ValueState) (t : List LexEvent) → marks (read_node languages bytes (config s t)).emitted ≡ marks t
 node-marks bytes s t =
-    (node-alike (λ a b. marks a ≡ marks t) (keeps-marks (marks t)) ValueState languages (λ v w. Unit {0}) (marks-emits (marks t)) bytes (config s t) (config s t) (beside-itself s) refl).1
+    (node-alike (λ a b. marks a ≡ marks t) (keeps-marks (marks t)) ValueState languages (λ v w. v ≡ w) (marks-emits (marks t)) bytes (config s t) (config s t) (beside-itself s) refl).1
 
 -- either that holds and the numbers are the same, or the first one is less
 abbrev Counted : Type 0 → ℕ → ℕ → Type 0

@@ -1,7 +1,9 @@
 -- The bytes of a hole lead the page's reading where the hole leads the path.
 use Rattle.std.proofs.Common.{◌≡◌, ℕ, Bool, true, false, List, [], ◌∷◌, Option, Some, None, option_map, if◌then◌else◌, Ok, Err, inl, refl, sym, ap, ◌∙◌, subst}
+use Rattle.std.proofs.lemmas.Bool.{and_parts}
 use Rattle.js_lexer.specs.Spots.{Spot, script_spot}
-use Rattle.js_lexer.specs.States.{ScriptState}
+use Rattle.js_lexer.specs.States.{At, ScriptState, Trail}
+use Rattle.js_lexer.specs.BackLaws.{in_code}
 use Rattle.js_step.specs.ScriptSanitizers.{script_sanitizer}
 use Rattle.page_datum.specs.Data.{Data}
 use Rattle.page_datum.specs.Printed.{printed}
@@ -13,7 +15,7 @@ use Rattle.place_core.specs.page.Plain.{IsPlain, IsPlainName}
 use Rattle.html_scan.proofs.Lowered.{kind_lowered}
 use Rattle.place_core.specs.page.References.{Closed, Open}
 use Rattle.place_core.specs.page.Shape.{HolePart, PageReads, state_past_hole, marked}
-use Rattle.place_core.specs.place.ScriptParts.{script_may_begin_text, script_place}
+use Rattle.place_core.specs.place.ScriptParts.{is_trail_of_cut, may_begin_text_at, script_may_begin_text, script_place}
 use Rattle.place_core.specs.place.StatePlaces.{content_spot, only_after, only_inside, placed, quotes_at, tag_spot, value_spot}
 use Rattle.place_core.specs.place.StyleParts.{style_css, style_place, style_tails}
 use Rattle.place_core.specs.place.UrlParts.{parts_of}
@@ -24,7 +26,7 @@ use Rattle.css_lexer.specs.States.{Style, style_start}
 use Rattle.css_step.specs.StyleChains.{style_hole_with_chain}
 use Rattle.css_step.specs.StyleScans.{style_at_hole, style_hole_error}
 use Rattle.css_step.specs.StyleScanViews.{style_or_refusal}
-use Rattle.place_core.specs.page.States.{Started, StartedDash, Inside, Dash, DashDash, Bang, Broken, Page, LexState, Text, TagOpen, EndTagOpen, DeclarationOpen, InComment, BogusComment, InDoctype, TagName, WholeTagName, BeforeAttributeName, AttributeName, WholeAttributeName, AfterAttributeName, BeforeAttributeValue, AttributeValue, AfterAttributeValue, SelfClosingStartTag, Characters, Bytes, InLanguage, Pending, Nothing, PendingLess, LessAtCut, PendingName, PendingBang, PendingBangDash, InContent, Unread, Config, config}
+use Rattle.place_core.specs.page.States.{Started, StartedDash, Inside, Dash, DashDash, Bang, Broken, Page, LexState, Text, TagOpen, EndTagOpen, DeclarationOpen, InComment, BogusComment, InDoctype, TagName, WholeTagName, BeforeAttributeName, AttributeName, WholeAttributeName, AfterAttributeName, BeforeAttributeValue, AttributeValue, AfterAttributeValue, SelfClosingStartTag, Characters, Bytes, InLanguage, Pending, Nothing, PendingLess, LessAtCut, PendingName, PendingBang, PendingBangDash, InContent, Config, config, PendingOpening}
 use Rattle.place_core.specs.page.Tags.{Tag, ValueOf, Deciding, ValueState, OfKind, OfUrl, OfStyle, languages, emitted_hole, value_settled, is_second_type, Quoting, DoubleQuoted, SingleQuoted, Unquoted, element_on, without_value, OfScript}
 use Rattle.place_core.specs.declared.body.Body.TheVariants as body
 use Rattle.place_core.specs.declared.chain.Chain.{Chain}
@@ -52,7 +54,9 @@ use Rattle.text_norm.specs.Standing.{StandsAtStyle, TextStands, WholeAttribute, 
 use Rattle.text_norm.proofs.Emits.{same-state}
 use Rattle.text_norm.proofs.HarmlessNames.{harmless-kind}
 use Rattle.text_norm.proofs.LanguagesKeep.{languages-keep}
-use Rattle.text_norm.proofs.ScriptHoles.{IsScriptHole, begun, begun-alike, script-begun-plain, script-hole, script-plain}
+use Rattle.text_norm.proofs.ScriptElementPromises.{IsScriptHoleUnless, script-element-hole, script_element_chain}
+use Rattle.text_norm.proofs.ScriptElementStands.{script-comment-kept, script-element-kept}
+use Rattle.text_norm.proofs.ScriptHoles.{no-spot, IsScriptHole, begun, begun-alike, script-begun-plain, script-hole, script-plain}
 use Rattle.text_norm.proofs.StyleElementHoles.{comment-hole-stands, element-hole}
 use Rattle.text_norm.proofs.StyleElementPromises.{ElementHolesAt, IsHoleUnless, element-holes, element_chain}
 use Rattle.text_norm.proofs.StyleHoles.{HolesAt, IsStyleHole, are-pages, css_of, style-begun-plain, style-holes, style-plain}
@@ -353,6 +357,50 @@ element-keeps (Some c) e s x datum bytes t d h f k l =
     subst (λ (z : Chain). IsBackBy z datum bytes → Kept z (in_element e (OfStyle s) Nothing) bytes t d) h.1
     (λ k. element-kept (leaves_out (element_chain c)) e s bytes t d (f h.0 k) l) k
 
+-- In the element of a script each place takes a value: which it is, and its chain.
+record IsScriptElementAccepted (begins : Bool) (o : Option Spot) (x : Chain) : Type 0 where
+  begun : begins ≡ true
+  spot : Spot
+  there : o ≡ Some spot
+  chain : script_element_chain spot ≡ x
+
+script-element-accepted : (begins : Bool) (o : Option Spot) (x : Chain)
+    → HoleOf (option_map place.Script (if begins then option_map script_place o else None)) x
+    → IsScriptElementAccepted begins o x
+script-element-accepted true (Some p) x h = record { begun = refl; spot = p; there = refl; chain = ap chain_in h.1 }
+script-element-accepted true None x h = absurd h
+script-element-accepted false o x h = absurd h
+
+script-element-kept-by : (left_out : Bool) (a : At) (trail : Trail) (bytes : List ℕ) (t : List LexEvent) (d : Config ValueState) → trail.fresh ≡ true
+    → may_begin_text_at a trail.markup ≡ true → IsScriptHoleUnless left_out (in_code a trail) bytes
+    → (let z = in_element element.Script (OfScript (in_code a trail)) Nothing in
+    TextStands languages z t d
+    → ArePlainUnless left_out bytes d × ((to : Config ValueState) × PageReads (parts_unless left_out bytes) d to × TextStands languages (at_hole languages z) (mark_in languages z t) to))
+script-element-kept-by true a trail bytes t d f b h l = (h.1, (d, refl, script-comment-kept element.Script a trail t d h.0 l))
+script-element-kept-by false a trail bytes t d f b h l =
+    let own = script-element-kept element.Script a trail bytes t d f b h.0 h.1 l in
+    kept (in_element element.Script (OfScript (in_code a trail)) Nothing) bytes t d own.0 own.1
+
+abbrev script_at_with : List ℕ → List ℕ → At → Trail → ScriptState
+script_at_with fs held a t = record { literals = fs; at = a; held = held; trail = t }
+
+-- the state is in no template literal, and holds nothing back
+script-element-by : (fs held : List ℕ) (a : At) (trail : Trail) (p : Spot) (x : Chain) (datum : Data) (bytes : List ℕ) (t : List LexEvent) (d : Config ValueState)
+    → script_may_begin_text (script_at_with fs held a trail) ≡ true → script_spot (script_at_with fs held a trail) ≡ Some p → script_element_chain p ≡ x
+    → IsBackBy x datum bytes → (let z = in_element element.Script (OfScript (script_at_with fs held a trail)) Nothing in TextStands languages z t d → Kept x z bytes t d)
+script-element-by [] [] a trail p x datum bytes t d b e c k l =
+    let both = and_parts (is_trail_of_cut trail) (may_begin_text_at a trail.markup) b in
+    let fresh = (and_parts trail.fresh _ both.0).0 in
+    subst (λ (z : Chain). IsBackBy z datum bytes → Kept z (in_element element.Script (OfScript (in_code a trail)) Nothing) bytes t d) c
+    (λ k. script-element-kept-by (leaves_out (script_element_chain p)) a trail bytes t d fresh both.1 (script-element-hole (in_code a trail) p b e datum bytes k) l) k
+script-element-by [] (h ∷ held) a trail p x datum bytes t d b e c k l = absurd (no-spot p e)
+script-element-by (n ∷ fs) held a trail p x datum bytes t d b e c k l = absurd (no-spot p e)
+
+script-element-keeps : (s : ScriptState) (x : Chain) (datum : Data) (bytes : List ℕ) (t : List LexEvent) (d : Config ValueState)
+    → IsScriptElementAccepted (script_may_begin_text s) (script_spot s) x → IsBackBy x datum bytes
+    → (let z = in_element element.Script (OfScript s) Nothing in TextStands languages z t d → Kept x z bytes t d)
+script-element-keeps s x datum bytes t d h k l = script-element-by s.literals s.held s.at s.trail h.spot x datum bytes t d h.begun h.there h.chain k l
+
 in-language-keeps : (pending : Pending) (v : ValueState) (e : Element) (x : Chain) (datum : Data) (bytes : List ℕ) (t : List LexEvent) (d : Config ValueState)
     → HoleOf (content_spot pending (InLanguage v) e) x → IsBackBy x datum bytes → TextStands languages (in_element e v pending) t d
     → Kept x (in_element e v pending) bytes t d
@@ -363,13 +411,15 @@ in-language-keeps Nothing (OfKind j) element.Style x datum bytes t d h k l = abs
 in-language-keeps Nothing (OfKind j) _ x datum bytes t d h k l = absurd h
 in-language-keeps Nothing (OfUrl u) element.Style x datum bytes t d h k l = absurd h
 in-language-keeps Nothing (OfUrl u) _ x datum bytes t d h k l = absurd h
-in-language-keeps Nothing (OfScript s) element.Style x datum bytes t d h k l = absurd h
+in-language-keeps Nothing (OfScript s) element.Script x datum bytes t d h k l =
+    script-element-keeps s x datum bytes t d (script-element-accepted (script_may_begin_text s) (script_spot s) x h) k l
 in-language-keeps Nothing (OfScript s) _ x datum bytes t d h k l = absurd h
 in-language-keeps PendingLess v e x datum bytes t d h k l = absurd h
 in-language-keeps (PendingName letters) v e x datum bytes t d h k l = absurd h
 in-language-keeps LessAtCut v e x datum bytes t d h k l = absurd h
 in-language-keeps PendingBang v e x datum bytes t d h k l = absurd h
 in-language-keeps PendingBangDash v e x datum bytes t d h k l = absurd h
+in-language-keeps (PendingOpening letters) v e x datum bytes t d h k l = absurd h
 
 -- In a script each place takes a value: which it is, and its chain.
 record IsScriptAccepted (begins : Bool) (o : Option Spot) (q : Quotes) (x : Chain) : Type 0 where
@@ -379,7 +429,7 @@ record IsScriptAccepted (begins : Bool) (o : Option Spot) (q : Quotes) (x : Chai
   chain : both_of (script_sanitizer (script_place spot)) (last_of q) ≡ x
 
 script-accepted : (begins : Bool) (o : Option Spot) (q : Quotes) (tag : Tag) (x : Chain)
-    → HoleOf (value_spot tag q (if begins then option_map (λ p. body.Js (script_place p)) o else None)) x → IsScriptAccepted begins o q x
+    → HoleOf (value_spot tag q (option_map body.Js (if begins then option_map script_place o else None))) x → IsScriptAccepted begins o q x
 script-accepted true (Some p) q tag x h = record { begun = refl; spot = p; there = refl; chain = ap chain_in h.1 }
 script-accepted true None q tag x h = absurd h
 script-accepted false o q tag x h = absurd h
@@ -498,6 +548,7 @@ hole-keeps (InContent e (Characters r) (PendingName letters)) x datum bytes t d 
 hole-keeps (InContent e (Characters r) LessAtCut) x datum bytes t d h k l = absurd h
 hole-keeps (InContent e (Characters r) PendingBang) x datum bytes t d h k l = absurd h
 hole-keeps (InContent e (Characters r) PendingBangDash) x datum bytes t d h k l = absurd h
+hole-keeps (InContent e (Characters r) (PendingOpening letters)) x datum bytes t d h k l = absurd h
 hole-keeps (InContent element.DataBlock Bytes Nothing) x datum bytes t d h k l = block-keeps x datum bytes t d (its (place.Block false) x h) k l
 hole-keeps (InContent element.Other Bytes Nothing) x datum bytes t d h k l = absurd h
 hole-keeps (InContent element.Title Bytes Nothing) x datum bytes t d h k l = absurd h
@@ -514,8 +565,8 @@ hole-keeps (InContent e Bytes PendingLess) x datum bytes t d h k l = absurd h
 hole-keeps (InContent e Bytes (PendingName letters)) x datum bytes t d h k l = absurd h
 hole-keeps (InContent e Bytes PendingBang) x datum bytes t d h k l = absurd h
 hole-keeps (InContent e Bytes PendingBangDash) x datum bytes t d h k l = absurd h
+hole-keeps (InContent e Bytes (PendingOpening letters)) x datum bytes t d h k l = absurd h
 hole-keeps (InContent e (InLanguage v) pending) x datum bytes t d h k l = in-language-keeps pending v e x datum bytes t d h k l
-hole-keeps Unread x datum bytes t d h k l = absurd h
 
 pub keeps-hole : KeepsHole
 keeps-hole p q x datum bytes s t d v i e k l =

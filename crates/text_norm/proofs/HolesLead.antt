@@ -4,9 +4,9 @@ use Rattle.std.proofs.lemmas.Bool.{and_parts}
 use Rattle.html_step.proofs.HoleOrder.{covers-hole}
 use Rattle.html_step.specs.Holes.{Holed, after_hole, both_of, last_of, url_chain}
 use Rattle.js_lexer.specs.BackLaws.{TakesData, behind_slash, in_code, in_regexp, in_string}
-use Rattle.js_lexer.specs.Holes.{script_has_mark_at}
+use Rattle.js_lexer.specs.Holes.{script_after_hole, script_has_mark_at}
 use Rattle.js_lexer.specs.Refusals.{is_cut_markup, within_escape}
-use Rattle.js_lexer.specs.Spots.{CodeSpot, MinusTail, NumberTail, PlusTail, SlashTail, Spot, StringSpot, Tail, WordTail, script_spot, spot_at, tail_of, unless_within}
+use Rattle.js_lexer.specs.Spots.{BlockSpot, CodeSpot, LineSpot, RegexpSpot, MinusTail, NumberTail, PlusTail, SlashTail, Spot, StringSpot, Tail, WordTail, script_spot, spot_at, tail_of, unless_within}
 use Rattle.js_lexer.specs.States.{At, BlockComment, Code, InRegexp, InTemplate, LineComment, Minuses, Number, Pluses, ScriptState, Slash, TooDeep, Trail}
 use Rattle.js_lexer.specs.States as script
 use Rattle.js_lexer.specs.Steps.{sense_if_odd}
@@ -50,6 +50,8 @@ use Rattle.url_lexer.specs.Spots.{where_whole}
 use Rattle.url_lexer.specs.States.{Url, url_at}
 use Rattle.url_lexer.specs.Triples.{Triple, NoTriple, AfterPercent, AfterDigit}
 use Rattle.text_norm.proofs.FilledMarks.{Leads, StandsRaw, block-leads, content-leads, double-leads, in_plain, in_style, in_url, leads-on, marked-is, name-leads, single-leads, text-leads, unbegun-leads, unquoted-leads, url-begun-leads, url-leads}
+use Rattle.text_norm.proofs.ScriptElementLeads.{script-element-leads, script-raw-stays}
+use Rattle.text_norm.proofs.ScriptElementPromises.{script-element-hole, script_element_chain}
 use Rattle.text_norm.proofs.ScriptLeads as scripts
 use Rattle.text_norm.proofs.ScriptLeads.{SiteFills, in_script, plain-first, plain-within, regexp-leads, script-begun-leads}
 use Rattle.text_norm.proofs.StyleElementHoles.{IsLoose}
@@ -163,19 +165,6 @@ element-safe (InUrl (Quoted j AfterBackslash) u) = tt
 element-safe (InUrl (Quoted j (HexDigits n)) u) = tt
 element-safe (InUrl (Quoted j AfterReturn) u) = tt
 element-safe (InUrl Ended u) = tt
-
-content-safe : (h : Pending) (x : Content ValueState) (e : Element) → SafeAt (InContent e x h) (content_spot h x e)
-content-safe Nothing (InLanguage (OfStyle s)) element.Style = element-safe s
-content-safe Nothing (InLanguage (OfKind k)) element.Style = tt
-content-safe Nothing (InLanguage (OfUrl u)) element.Style = tt
-content-safe Nothing (InLanguage (OfScript s)) element.Style = tt
-content-safe Nothing (Characters Closed) element.Title = λ datum bytes k. leads-on (in_rcdata element.Title) (printed datum) bytes tt
-    (content-leads element.Title (printed datum) bytes k.1)
-content-safe Nothing (Characters Closed) element.Textarea = λ datum bytes k. leads-on (in_rcdata element.Textarea) (printed datum) bytes tt
-    (content-leads element.Textarea (printed datum) bytes k.1)
-content-safe Nothing Bytes element.DataBlock = λ datum bytes k. leads-on in_block (printed datum) bytes tt (block-leads (printed datum) bytes k.2)
-content-safe LessAtCut Bytes element.DataBlock = tt
-content-safe _ _ _ = tt
 
 -- in a URL, by its part
 url-led-on : (q : Quoting) (tag : Tag) (u : Url) (datum : Data) (bytes : List ℕ) → u.triple ≡ NoTriple → refuses_hole_in u.part ≡ None
@@ -357,11 +346,132 @@ place-safe [] (c ∷ held) a t q tag p s i b e = absurd (no-spot p e)
 place-safe (n ∷ fs) held a t q tag p s i b e = absurd (no-spot p e)
 
 script-safe : (begins : Bool) (o : Option Spot) (q : Quoting) (tag : Tag) (s : ScriptState) → script_may_begin_text s ≡ begins → script_spot s ≡ o
-    → SafeAt (in_script q tag s) (value_spot tag (quotes_at q) (if begins then option_map (λ p. body.Js (script_place p)) o else None))
+    → SafeAt (in_script q tag s) (value_spot tag (quotes_at q) (option_map body.Js (if begins then option_map script_place o else None)))
 script-safe true (Some p) q tag s b e =
     place-safe s.literals s.held s.at s.trail q tag p s refl (and_parts (is_trail_of_cut s.trail) (may_begin_text_at s.at s.trail.markup) b).1 e
 script-safe true None q tag s b e = tt
 script-safe false o q tag s b e = tt
+
+-- In the element of a script, by where its path is: in a comment a value is left out.
+abbrev in_script_element : ScriptState → LexState ValueState
+in_script_element s = in_element element.Script (OfScript s) Nothing
+
+abbrev SafeAtElementSpot : ScriptState → Spot → Type 0
+SafeAtElementSpot s p = LeadsBy (script_element_chain p) (in_script_element s)
+
+-- the path is there, and a text may begin
+record MayStand (a : At) (t : Trail) (p : Spot) : Type 0 where
+  begins : script_may_begin_text (in_code a t) ≡ true
+  spot : script_spot (in_code a t) ≡ Some p
+
+fresh-there : (a : At) (t : Trail) (p : Spot) → MayStand a t p → t.fresh ≡ true
+fresh-there a t p h = (and_parts t.fresh _ (and_parts (is_trail_of_cut t) (may_begin_text_at a t.markup) h.begins).0).0
+
+begins-there : (a : At) (t : Trail) (p : Spot) → MayStand a t p → may_begin_text_at a t.markup ≡ true
+begins-there a t p h = (and_parts (is_trail_of_cut t) (may_begin_text_at a t.markup) h.begins).1
+
+code-element-spot : (a : At) (t : Trail) → TakesData a → script_has_mark_at a ≡ true → SiteFills a DoubleQuoted ScriptCodeSite
+    → (s : Sense) (x : Tail) (p : Spot)
+    → p ≡ CodeSpot s x → MayStand a t p → SafeAtElementSpot (in_code a t) p
+code-element-spot a t h m own s x p e o =
+    subst (λ (z : Spot). MayStand a t z → SafeAtElementSpot (in_code a t) z) (sym e)
+    (λ o datum bytes k.
+    let g = script-element-hole (in_code a t) (CodeSpot s x) o.begins o.spot datum bytes k in
+    script-element-leads element.Script a t (printed datum) bytes (fresh-there a t _ o) (begins-there a t _ o) g.0 g.1
+    (scripts.code-filled a t h m DoubleQuoted own datum bytes k.there)) o
+
+string-element-spot : (j : Bool) (t : Trail) (p : Spot) → p ≡ StringSpot j → MayStand (script.InString j script.NoEscape) t p
+    → SafeAtElementSpot (in_string j t) p
+string-element-spot true t p e o =
+    subst (λ (z : Spot). MayStand (script.InString true script.NoEscape) t z → SafeAtElementSpot (in_string true t) z) (sym e)
+    (λ o datum bytes k.
+    let g = script-element-hole (in_string true t) (StringSpot true) o.begins o.spot datum bytes k in
+    script-element-leads element.Script (script.InString true script.NoEscape) t (printed datum) bytes (fresh-there _ t _ o) (begins-there _ t _ o) g.0 g.1
+    (scripts.string-filled true t DoubleQuoted (λ t text vs. refl) (printed datum) bytes k.there)) o
+string-element-spot false t p e o =
+    subst (λ (z : Spot). MayStand (script.InString false script.NoEscape) t z → SafeAtElementSpot (in_string false t) z) (sym e)
+    (λ o datum bytes k.
+    let g = script-element-hole (in_string false t) (StringSpot false) o.begins o.spot datum bytes k in
+    script-element-leads element.Script (script.InString false script.NoEscape) t (printed datum) bytes (fresh-there _ t _ o) (begins-there _ t _ o) g.0 g.1
+    (scripts.string-filled false t DoubleQuoted (λ t text vs. refl) (printed datum) bytes k.there)) o
+
+regexp-element-spot : (t : Trail) (p : Spot) → p ≡ RegexpSpot false → MayStand (InRegexp false script.NoEscape) t p → SafeAtElementSpot (in_regexp t) p
+regexp-element-spot t p e o =
+    subst (λ (z : Spot). MayStand (InRegexp false script.NoEscape) t z → SafeAtElementSpot (in_regexp t) z) (sym e)
+    (λ o datum bytes k.
+    let g = script-element-hole (in_regexp t) (RegexpSpot false) o.begins o.spot datum bytes k in
+    script-element-leads element.Script (InRegexp false script.NoEscape) t (printed datum) bytes (fresh-there _ t _ o) (begins-there _ t _ o) g.0 g.1
+    (scripts.regexp-filled (InRegexp false script.NoEscape) t refl refl DoubleQuoted (λ t text vs. refl) plain-within (printed datum) bytes k.there)) o
+
+slash-element-spot : (t : Trail) (p : Spot) → p ≡ RegexpSpot true → MayStand (Slash sense.Re) t p → SafeAtElementSpot (behind_slash t) p
+slash-element-spot t p e o =
+    subst (λ (z : Spot). MayStand (Slash sense.Re) t z → SafeAtElementSpot (behind_slash t) z) (sym e)
+    (λ o datum bytes k.
+    let g = script-element-hole (behind_slash t) (RegexpSpot true) o.begins o.spot datum bytes k in
+    script-element-leads element.Script (Slash sense.Re) t (printed datum) bytes (fresh-there _ t _ o) (begins-there _ t _ o) g.0 g.1
+    (scripts.regexp-filled (Slash sense.Re) t refl refl DoubleQuoted (λ t text vs. refl) plain-first (printed datum) bytes k.there)) o
+
+line-element-spot : (s : Sense) (t : Trail) → SafeAtElementSpot (in_code (LineComment s) t) (LineSpot s)
+line-element-spot s t datum bytes k vs u m d l r =
+    script-raw-stays element.Script (in_code (LineComment s) t) (script_after_hole (in_code (LineComment s) t)) vs m d r
+
+block-element-spot : (s : Sense) (star : Bool) (t : Trail) → SafeAtElementSpot (in_code (BlockComment s star) t) (BlockSpot s star)
+block-element-spot s star t datum bytes k vs u m d l r =
+    script-raw-stays element.Script (in_code (BlockComment s star) t) (script_after_hole (in_code (BlockComment s star) t)) vs m d r
+
+element-spot-safe : (a : At) (t : Trail) (p : Spot) → MayStand a t p → may_begin_text_at a t.markup ≡ true → spot_at a t ≡ Some p
+    → SafeAtElementSpot (in_code a t) p
+element-spot-safe (Code s) t p o b e =
+    code-element-spot (Code s) t tt refl (λ t text vs. refl) s (tail_of t.markup) p (spot-within (is_cut_markup t.markup) _ p e) o
+element-spot-safe (script.Word w) t p o b e =
+    code-element-spot (script.Word w) t tt refl (λ t text vs. refl) (sense_after w) WordTail p (some-spot _ p e) o
+element-spot-safe Number t p o b e = code-element-spot Number t tt refl (λ t text vs. refl) sense.Div NumberTail p (some-spot _ p e) o
+element-spot-safe (Pluses odd) t p o b e = code-element-spot (Pluses odd) t tt refl (λ t text vs. refl) (sense_if_odd odd) PlusTail p (some-spot _ p e) o
+element-spot-safe (Minuses odd) t p o b e =
+    code-element-spot (Minuses odd) t tt refl (λ t text vs. refl) (sense_if_odd odd) MinusTail p (spot-within (is_cut_markup t.markup) _ p e) o
+element-spot-safe (Slash sense.Re) t p o b e = slash-element-spot t p (spot-within (is_cut_markup t.markup) _ p e) o
+element-spot-safe (Slash sense.Div) t p o b e = code-element-spot (Slash sense.Div) t tt refl (λ t text vs. refl) sense.Re SlashTail p (some-spot _ p e) o
+element-spot-safe (Slash sense.Brace) t p o b e = absurd (no-spot p e)
+element-spot-safe (LineComment s) t p o b e = subst (SafeAtElementSpot (in_code (LineComment s) t)) (sym (some-spot _ p e)) (line-element-spot s t)
+element-spot-safe (BlockComment s star) t p o b e =
+    subst (SafeAtElementSpot (in_code (BlockComment s star) t)) (sym (some-spot _ p e)) (block-element-spot s star t)
+element-spot-safe (script.InString j script.NoEscape) t p o b e = string-element-spot j t p (spot-within (within_escape t) _ p e) o
+element-spot-safe (InRegexp false script.NoEscape) t p o b e = regexp-element-spot t p (spot-within (within_escape t || is_cut_markup t.markup) _ p e) o
+element-spot-safe (script.InString j _) t p o b e = absurd (no-true b)
+element-spot-safe (InRegexp true _) t p o b e = absurd (no-true b)
+element-spot-safe (InRegexp false _) t p o b e = absurd (no-true b)
+element-spot-safe (InTemplate x d) t p o b e = absurd (no-true b)
+element-spot-safe TooDeep t p o b e = absurd (no-true b)
+
+abbrev at_with : List ℕ → List ℕ → At → Trail → ScriptState
+at_with fs held a t = record { literals = fs; at = a; held = held; trail = t }
+
+element-place-safe : (fs held : List ℕ) (a : At) (t : Trail) (p : Spot) → script_may_begin_text (at_with fs held a t) ≡ true
+    → script_spot (at_with fs held a t) ≡ Some p → SafeAtElementSpot (at_with fs held a t) p
+element-place-safe [] [] a t p b e =
+    element-spot-safe a t p (record { begins = b; spot = e }) (and_parts (is_trail_of_cut t) (may_begin_text_at a t.markup) b).1 e
+element-place-safe [] (c ∷ held) a t p b e = absurd (no-spot p e)
+element-place-safe (n ∷ fs) held a t p b e = absurd (no-spot p e)
+
+script-element-safe : (begins : Bool) (o : Option Spot) (s : ScriptState) → script_may_begin_text s ≡ begins → script_spot s ≡ o
+    → SafeAt (in_script_element s) (option_map place.Script (if begins then option_map script_place o else None))
+script-element-safe true (Some p) s b e = element-place-safe s.literals s.held s.at s.trail p b e
+script-element-safe true None s b e = tt
+script-element-safe false o s b e = tt
+
+content-safe : (h : Pending) (x : Content ValueState) (e : Element) → SafeAt (InContent e x h) (content_spot h x e)
+content-safe Nothing (InLanguage (OfStyle s)) element.Style = element-safe s
+content-safe Nothing (InLanguage (OfKind k)) element.Style = tt
+content-safe Nothing (InLanguage (OfUrl u)) element.Style = tt
+content-safe Nothing (InLanguage (OfScript s)) element.Style = tt
+content-safe Nothing (InLanguage (OfScript s)) element.Script = script-element-safe (script_may_begin_text s) (script_spot s) s refl refl
+content-safe Nothing (Characters Closed) element.Title = λ datum bytes k. leads-on (in_rcdata element.Title) (printed datum) bytes tt
+    (content-leads element.Title (printed datum) bytes k.1)
+content-safe Nothing (Characters Closed) element.Textarea = λ datum bytes k. leads-on (in_rcdata element.Textarea) (printed datum) bytes tt
+    (content-leads element.Textarea (printed datum) bytes k.1)
+content-safe Nothing Bytes element.DataBlock = λ datum bytes k. leads-on in_block (printed datum) bytes tt (block-leads (printed datum) bytes k.2)
+content-safe LessAtCut Bytes element.DataBlock = tt
+content-safe _ _ _ = tt
 
 value-safe : (r : Reference) (v : Value ValueState) (q : Quoting) (tag : Tag)
     → SafeAt (AttributeValue q tag v r) (where_closed r (value_spot tag (quotes_at q) (value_body v)))

@@ -2,19 +2,18 @@
 use Rattle.std.proofs.Common.{◌≡◌, ℕ, ◌+◌, Bool, true, false, codes, List, [], ◌∷◌, ◌++◌, length, Option, Some, None, refl, sym, ap, ◌∙◌, subst}
 use Rattle.place_core.specs.page.Classes.{Class, GreaterThan, class_of}
 use Rattle.place_core.specs.page.Comments.{closes_comment, comment_ended, next_in_comment}
-use Rattle.place_core.specs.place.Errors.{PathCause, PathRefusal, at_hand, broken_off, byte_error, content_error, cut_error, ending_tag, first_byte_error, language_error, lexeme_error, quotes_error, refusal_from, standing_at, states, tag_error, TextRead, first_path_refusal, nests_too_deep, nothing_read, read_behind, script_byte_refusal, script_cut_refusal, unless_in_script}
+use Rattle.place_core.specs.place.Errors.{PathCause, PathRefusal, broken_off, byte_error, cut_error, first_byte_error, language_error, lexeme_error, refusal_from, standing_at, states, TextRead, first_path_refusal, nests_too_deep, nothing_read, read_behind, script_byte_refusal, script_cut_refusal, unless_in_script}
 use Rattle.place_core.specs.page.Events.{LexEvent, event_text_bytes}
 use Rattle.place_core.specs.page.Html.{ends_value, next, read_over, emits}
 use Rattle.place_core.specs.place.Membership.{IsIn}
 use Rattle.place_core.specs.page.Paths.{at_cut, read_node, emits_cut}
-use Rattle.place_core.specs.page.References.{Reference, Closed, Open, as_it_stands, settled}
-use Rattle.place_core.specs.place.StatePlaces.{only_before, quotes_at, tag_spot}
-use Rattle.place_core.specs.page.States.{Page, Template, LexState, Text, TagOpen, EndTagOpen, DeclarationOpen, CommentState, InComment, BogusComment, InDoctype, TagName, WholeTagName, BeforeAttributeName, AttributeName, WholeAttributeName, AfterAttributeName, BeforeAttributeValue, AttributeValue, AfterAttributeValue, SelfClosingStartTag, Characters, Bytes, InLanguage, Nothing, PendingLess, LessAtCut, PendingName, PendingBang, PendingBangDash, InContent, Unread, Config, config}
-use Rattle.place_core.specs.page.Tags.{Tag, ValueLanguage, Value, ValueOf, Deciding, ValueState, languages, feeding, Quoting, Unquoted, tag_of_name, attribute_value_of}
+use Rattle.place_core.specs.page.References.{Closed, Open, as_it_stands, settled}
+use Rattle.place_core.specs.page.States.{Page, Template, LexState, Text, TagOpen, EndTagOpen, DeclarationOpen, CommentState, InComment, BogusComment, InDoctype, TagName, WholeTagName, BeforeAttributeName, AttributeName, WholeAttributeName, AfterAttributeName, BeforeAttributeValue, AttributeValue, AfterAttributeValue, SelfClosingStartTag, Characters, Bytes, InLanguage, Nothing, PendingLess, LessAtCut, PendingName, PendingBang, PendingBangDash, PendingOpening, InContent, Config, config}
+use Rattle.place_core.specs.page.Tags.{Tag, ValueLanguage, ValueOf, Deciding, ValueState, OfKind, OfScript, OfStyle, OfUrl, languages, feeding, attribute_value_of}
 use Rattle.place_core.specs.declared.code.Code.{Code}
 use Rattle.place_core.specs.declared.kind.Kind.{Kind}
 use Rattle.place_core.proofs.Readings.{over-append}
-use Rattle.html_step.proofs.OnePath.{none-at-hand, none-unless, some}
+use Rattle.html_step.proofs.OnePath.{none-at-hand, some}
 use Rattle.html_step.proofs.OneTexts.{one-text}
 use Rattle.html_step.proofs.WholeTexts.{covers-text, grows-text}
 use Rattle.text_norm.specs.Laws.{KeepsShape}
@@ -23,37 +22,16 @@ use Rattle.text_norm.specs.Standing.{TextStands, page}
 use Rattle.text_norm.specs.Written.{cut_out, out, written}
 use Rattle.text_norm.proofs.ContentKeeps.{in-block, in-content}
 use Rattle.text_norm.proofs.Runs.{on}
+use Rattle.text_norm.proofs.ScriptsKeep.{cut-script, in-script}
 use Rattle.text_norm.proofs.StyleElementKeeps.{cut-language, in-language}
 use Rattle.text_norm.proofs.TagsKeep.{after-name, before-leads, in-name, in-tag-name, in-whole-name, in-whole-tag}
 use Rattle.text_norm.proofs.TextKeeps.{class_solidus, in-declaration, in-end-tag-open, in-tag-open, in-text}
 use Rattle.text_norm.proofs.LanguagesKeep.{languages-keep}
 use Rattle.text_norm.proofs.ValuesKeep.{before-value, both-none, cut-alike, fed-taken, in-value}
 
--- a tag at whose end no content is refused
-ends-built : (tag : Tag) (c : Class) → at_hand (tag_error (tag_spot tag only_before None) c) ≡ None → c ≡ GreaterThan → content_error tag.tag ≡ None
-ends-built tag c n e = none-at-hand (content_error tag.tag) (subst (λ (z : Class). at_hand (tag_error (tag_spot tag only_before None) z) ≡ None) e n)
-
-tag-built : (ends : Bool) (name : List ℕ) (c : Class) (b : ℕ) → byte_error (TagName ends name) c b ≡ None → c ≡ GreaterThan → content_error (tag_of_name ends name) ≡ None
-tag-built ends name c b n e = none-at-hand _ (subst (λ (z : Class). byte_error (TagName ends name) z b ≡ None) e n)
-
-name-built : (tag : Tag) (name : List ℕ) (c : Class) (b : ℕ) → byte_error (AttributeName tag name) c b ≡ None → c ≡ GreaterThan → content_error tag.tag ≡ None
-name-built tag name c b n e = none-unless _ _ _ (subst (λ (z : Class). byte_error (AttributeName tag name) z b ≡ None) e n)
-
-after-built : (tag : Tag) (k : Kind) (c : Class) (b : ℕ) → byte_error (AfterAttributeName tag k) c b ≡ None → c ≡ GreaterThan → content_error tag.tag ≡ None
-after-built tag k c b n e = none-at-hand _ (subst (λ (z : Class). byte_error (AfterAttributeName tag k) z b ≡ None) e n)
-
-bare-built : (q : Quoting) (tag : Tag) (v : Value ValueState) (r : Reference) (c : Class) → at_hand (quotes_error (ending_tag languages tag v r).tag (quotes_at q) c) ≡ None
-    → q ≡ Unquoted → c ≡ GreaterThan → content_error (ending_tag languages tag v r).tag ≡ None
-bare-built q tag v r c n e f =
-    let end = (ending_tag languages tag v r).tag in
-    none-at-hand _ (subst (λ (z : Class). at_hand (quotes_error end (quotes_at Unquoted) z) ≡ None) f (subst (λ (z : Quoting). at_hand (quotes_error end (quotes_at z) c) ≡ None) e n))
-
 -- what a language and what the rest refuse of a value
 value-taken : (tag : Tag) (k : Kind) (c : Class) (b : ℕ) → byte_error (BeforeAttributeValue tag k) c b ≡ None → first_byte_error (feeding languages) (attribute_value_of languages k) c b ≡ None
 value-taken tag k c b n = (both-none (first_byte_error (feeding languages) (attribute_value_of languages k) c b) _ n).0
-
-value-built : (tag : Tag) (k : Kind) (c : Class) (b : ℕ) → byte_error (BeforeAttributeValue tag k) c b ≡ None → c ≡ GreaterThan → content_error tag.tag ≡ None
-value-built tag k c b n e = none-at-hand _ (subst (λ (z : Class). byte_error (BeforeAttributeValue tag k) z b ≡ None) e n)
 
 -- a comment writes nothing
 in-comment : (x : ValueLanguage ValueState) (ended : Bool) (t : List LexEvent) (d : Config ValueState) → d ≡ config (Text Closed) t → TextStands x (comment_ended ended) t d
@@ -75,22 +53,24 @@ follows (InComment s) c b t d e n h = comment-leads languages s c t d h
 follows BogusComment c b t d e n h = absurd h
 follows InDoctype GreaterThan b t d e n h = rw (h, e) refl
 follows InDoctype _ b t d e n h = rw (h, e) refl
-follows (TagName ends name) c b t d e n h = in-tag-name ends name c b t d e (tag-built ends name c b n) h
+follows (TagName ends name) c b t d e n h = in-tag-name ends name c b t d e h
 follows (WholeTagName tag) c b t d e n h = in-whole-tag tag c b t d e (none-at-hand _ n) h
-follows (BeforeAttributeName tag) c b t d e n h = before-leads tag c b _ (page languages (b ∷ []) d) (ends-built tag c n) (rw (h, e) refl)
-follows (AttributeName tag name) c b t d e n h = in-name tag name c b t d e (name-built tag name c b n) h
+follows (BeforeAttributeName tag) c b t d e n h = before-leads tag c b _ (page languages (b ∷ []) d) (rw (h, e) refl)
+follows (AttributeName tag name) c b t d e n h = in-name tag name c b t d e h
 follows (WholeAttributeName tag k) c b t d e n h = in-whole-name tag k c b t d e (none-at-hand _ n) h
-follows (AfterAttributeName tag k) c b t d e n h = after-name tag k c b t d e (after-built tag k c b n) h
-follows (BeforeAttributeValue tag k) c b t d e n h = before-value languages-keep tag k c b t d e (value-taken tag k c b n) (value-built tag k c b n) h
+follows (AfterAttributeName tag k) c b t d e n h = after-name tag k c b t d e h
+follows (BeforeAttributeValue tag k) c b t d e n h = before-value languages-keep tag k c b t d e (value-taken tag k c b n) h
 follows (AttributeValue q tag v r) c b t d e n h =
     let m = both-none (language_error (feeding languages) (ends_value q c) v r c b) _ n in
-    in-value languages-keep q tag v r c b t d e m.0 (bare-built q tag v r c m.1) h
-follows (AfterAttributeValue tag) c b t d e n h = before-leads tag c b _ (page languages (b ∷ []) d) (ends-built tag c n) (rw (h, e) refl)
-follows (SelfClosingStartTag tag) c b t d e n h = before-leads tag c b _ (page languages (b ∷ []) d) (ends-built tag c n) (rw (h, e) refl)
+    in-value languages-keep q tag v r c b t d e m.0 h
+follows (AfterAttributeValue tag) c b t d e n h = before-leads tag c b _ (page languages (b ∷ []) d) (rw (h, e) refl)
+follows (SelfClosingStartTag tag) c b t d e n h = before-leads tag c b _ (page languages (b ∷ []) d) (rw (h, e) refl)
 follows (InContent x (Characters r) pending) c b t d e n h = in-content languages x r pending c b t d e h
 follows (InContent x Bytes pending) c b t d e n h = in-block languages x pending c b t d e n h
-follows (InContent x (InLanguage v) pending) c b t d e n h = in-language x v pending c b t d e n h
-follows Unread c b t d e n h = absurd (some _ n)
+follows (InContent x (InLanguage (OfStyle s)) pending) c b t d e n h = in-language x s pending c b t d e n h
+follows (InContent x (InLanguage (OfScript s)) pending) c b t d e n h = in-script x s pending c b t d e n h
+follows (InContent x (InLanguage (OfKind k)) pending) c b t d e n h = absurd h
+follows (InContent x (InLanguage (OfUrl u)) pending) c b t d e n h = absurd h
 
 -- the end of the node
 cut-follows : (s : LexState ValueState) (t : List LexEvent) (d : Config ValueState) → cut_error s ≡ None → lexeme_error s ≡ None → TextStands languages s t d
@@ -124,14 +104,18 @@ cut-follows (InContent e (Characters (Open f bytes)) (PendingName letters)) t d 
 cut-follows (InContent e (Characters r) LessAtCut) t d n m h = absurd h
 cut-follows (InContent e (Characters r) PendingBang) t d n m h = absurd h
 cut-follows (InContent e (Characters r) PendingBangDash) t d n m h = absurd h
+cut-follows (InContent e (Characters r) (PendingOpening letters)) t d n m h = absurd h
 cut-follows (InContent e Bytes Nothing) t d n m h = h
 cut-follows (InContent e Bytes PendingLess) t d n m h = h
 cut-follows (InContent e Bytes LessAtCut) t d n m h = h
 cut-follows (InContent e Bytes (PendingName letters)) t d n m h = absurd (some _ n)
 cut-follows (InContent e Bytes PendingBang) t d n m h = absurd (some _ n)
 cut-follows (InContent e Bytes PendingBangDash) t d n m h = absurd (some _ n)
-cut-follows (InContent e (InLanguage v) pending) t d n m h = cut-language e v pending t d n m h
-cut-follows Unread t d n m h = h
+cut-follows (InContent e Bytes (PendingOpening letters)) t d n m h = absurd h
+cut-follows (InContent e (InLanguage (OfStyle s)) pending) t d n m h = cut-language e s pending t d n m h
+cut-follows (InContent e (InLanguage (OfScript s)) pending) t d n m h = cut-script e s pending t d n h
+cut-follows (InContent e (InLanguage (OfKind k)) pending) t d n m h = absurd h
+cut-follows (InContent e (InLanguage (OfUrl u)) pending) t d n m h = absurd h
 
 -- what is refused at no byte
 pub goes : (k : ℕ) (o : Option PathCause) (rest : Option PathRefusal) → standing_at k o rest ≡ None → (o ≡ None) × (rest ≡ None)
@@ -139,10 +123,10 @@ goes k None rest n = (refl, n)
 goes k (Some e) rest n = absurd (some _ n)
 
 -- nor by what a script is told later
-in-script : (k : ℕ) (x : Option PathRefusal) (o : Option PathCause) (rest : Option PathRefusal) → unless_in_script k x o rest ≡ None
+unless-told : (k : ℕ) (x : Option PathRefusal) (o : Option PathCause) (rest : Option PathRefusal) → unless_in_script k x o rest ≡ None
     → (o ≡ None) × (rest ≡ None)
-in-script k None o rest n = goes k o rest n
-in-script k (Some x) o rest n = absurd (some _ n)
+unless-told k None o rest n = goes k o rest n
+unless-told k (Some x) o rest n = absurd (some _ n)
 
 -- nor at the node's end
 first : (x o : Option PathRefusal) → first_path_refusal x o ≡ None → o ≡ None
@@ -157,12 +141,12 @@ pub keeps-from : (bytes : List ℕ) (k : ℕ) (since : TextRead) (s : LexState V
     → (let c = read_node languages bytes (config s t) in TextStands languages c.at c.emitted (page languages (written languages bytes s) d))
 keeps-from [] k since s t d n h =
     let broken = broken_off k since.last (lexeme_error s) in
-    let m = in-script k (script_cut_refusal k since.fed s) (cut_error s) (first_path_refusal (nests_too_deep k since.deep) broken) n in
+    let m = unless-told k (script_cut_refusal k since.fed s) (cut_error s) (first_path_refusal (nests_too_deep k since.deep) broken) n in
     cut-follows s t d m.0 (whole k since.last (lexeme_error s) (first (nests_too_deep k since.deep) broken m.1)) h
 keeps-from (b ∷ bs) k since s t d n h =
     let z = next languages Template s (class_of b) b in
     let later = read_behind k since s (class_of b) b in
-    let m = in-script k (script_byte_refusal k since.fed s (class_of b) b) (byte_error s (class_of b) b) (refusal_from (k + 1) later bs z) n in
+    let m = unless-told k (script_byte_refusal k since.fed s (class_of b) b) (byte_error s (class_of b) b) (refusal_from (k + 1) later bs z) n in
     let u = emits languages Template s (class_of b) b t in
     let o = out languages s (class_of b) b in
     rw (over-append languages Page o (written languages bs z) d) (keeps-from bs (k + 1) later z u (page languages o d) m.1 (follows s (class_of b) b t d refl m.0 h))

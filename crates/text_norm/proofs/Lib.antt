@@ -2,9 +2,9 @@ mod ByteLaws
 mod ChangedSteps
 pub mod ContentKeeps
 pub mod Declared
+mod ElementsSame
 pub mod Emits
 pub mod EmittedAlike
-mod ElementsSame
 mod EndLaws
 mod FilledEvents
 pub mod FilledMarks
@@ -24,12 +24,43 @@ mod ReadBeside
 mod Rests
 pub mod Runs
 pub mod Same
+mod ScriptBacks
+mod ScriptBeforeLess
+mod ScriptByteKept
+mod ScriptByteReads
+mod ScriptByteWrites
+mod ScriptChanges
+pub mod ScriptCodeSteps
+mod ScriptElementEnds
+pub mod ScriptElementHoles
+mod ScriptElementKeeps
+mod ScriptElementLeads
+pub mod ScriptElementPromises
+mod ScriptElementReads
+pub mod ScriptElementStands
+mod ScriptElementSteps
+mod ScriptElementWords
+mod ScriptElementsSame
 mod ScriptFillingExamples
-mod ScriptHoles
+pub mod ScriptHoles
 mod ScriptHolesTold
 mod ScriptLeads
 mod ScriptLeadsTells
+pub mod ScriptLessFed
+mod ScriptNamesCut
+mod ScriptNodeEnds
+pub mod ScriptPages
+mod ScriptPending
+mod ScriptProgress
+mod ScriptRunKept
+mod ScriptScansWrite
+mod ScriptStepKept
+mod ScriptTellsThere
+mod ScriptTokenSteps
 mod ScriptValuesKeep
+mod ScriptWordKept
+mod ScriptWritten
+pub mod ScriptsKeep
 pub mod SlashReads
 mod Slices
 mod Spelled

@@ -1,17 +1,25 @@
 -- What is written by a state and by its scan state is the same, and so it is by a scan state and one above it.
-use Rattle.std.proofs.Common.{◌≡◌, ℕ, ◌+◌, Bool, true, false, codes, List, [], ◌∷◌, ◌++◌, Option, Some, None, if◌then◌else◌, Ok, refl, sym, ap, ap₂, ◌∙◌, subst}
-use Rattle.html_step.proofs.ScriptPaths.{kept_script_scanned, script_value}
+use Rattle.std.proofs.Common.{◌≡◌, ℕ, ◌+◌, Bool, true, false, codes, List, [], ◌∷◌, ◌++◌, Option, Some, None, option_map, inl, if◌then◌else◌, Ok, refl, sym, ap, ap₂, ◌∙◌, subst}
+use Rattle.html_step.proofs.ScriptPaths.{kept_script_scanned, one-stand, script_value}
+use Rattle.html_step.proofs.ScriptElementOrder.{DoesAlike}
+use Rattle.html_step.proofs.ScriptElementSteps.{where-script-element}
+use Rattle.html_step.proofs.ScriptOrder.{ScriptUnder, below-js, scripts-in-order}
+use Rattle.html_step.proofs.JsPlaces.{js-below-place}
+use Rattle.js_lexer.specs.Elements.{script_may_end}
 use Rattle.js_lexer.specs.States.{ScriptState}
-use Rattle.js_step.specs.ScriptScans.{ScriptScan}
+use Rattle.js_step.specs.ScriptScans.{ScriptScan, script_scan_start}
 use Rattle.place_core.specs.declared.body.Body.{Body}
 use Rattle.place_core.specs.page.Classes.{Class, White, ExclamationMark, QuotationMark, Apostrophe, HyphenMinus, Solidus, LessThan, EqualsSign, GreaterThan, QuestionMark, Letter, class_of}
 use Rattle.place_core.specs.page.Comments.{Declaration, OpensComment, OpensDoctype, Undecided, OpensNothing, closes_comment, comment_ended, declared_by, next_in_comment, next_in_doctype}
-use Rattle.place_core.specs.page.Contents.{may_be_name_of, is_name_of, pending_bytes, next_bang, next_end_name, next_in_content, next_less, next_loose}
+use Rattle.place_core.specs.page.Contents.{ScriptStep, Reads, EndsContent, behind_end_tag, next_by_step, script_step, may_be_name_of, is_name_of, pending_bytes, next_bang, next_end_name, next_in_content, next_less, next_loose}
 use Rattle.place_core.specs.page.Html.{after_tag, ends_value, next, next_after_name, next_after_value, next_before_name, next_before_value, next_declaration, next_end_tag_open, next_name, next_tag_name, next_tag_open, next_text, next_value}
 use Rattle.place_core.specs.place.Errors.{pending_error, split_error, TextRead, nothing_read}
-use Rattle.place_core.specs.place.Places.{Below}
+use Rattle.place_core.specs.place.LanguagePlaces.{IsValidJs}
+use Rattle.place_core.specs.place.Places.{Below, IsValid}
+use Rattle.place_core.specs.declared.body.Body.TheVariants as body
+use Rattle.place_core.specs.declared.js.Js.{Js}
 use Rattle.place_core.specs.page.References.{Reference, Closed, Open, as_it_stands, begin_reference, next_reference, settled}
-use Rattle.place_core.specs.page.States.{CommentState, Started, StartedDash, Inside, Dash, DashDash, Bang, Broken, Template, LexState, Text, TagOpen, EndTagOpen, DeclarationOpen, InComment, BogusComment, InDoctype, TagName, WholeTagName, BeforeAttributeName, AttributeName, WholeAttributeName, AfterAttributeName, BeforeAttributeValue, AttributeValue, AfterAttributeValue, SelfClosingStartTag, Characters, Bytes, InLanguage, Pending, Nothing, PendingLess, LessAtCut, PendingName, PendingBang, PendingBangDash, InContent, Unread}
+use Rattle.place_core.specs.page.States.{CommentState, Started, StartedDash, Inside, Dash, DashDash, Bang, Broken, Template, LexState, Text, TagOpen, EndTagOpen, DeclarationOpen, InComment, BogusComment, InDoctype, TagName, WholeTagName, BeforeAttributeName, AttributeName, WholeAttributeName, AfterAttributeName, BeforeAttributeValue, AttributeValue, AfterAttributeValue, SelfClosingStartTag, Characters, Bytes, InLanguage, Pending, Nothing, PendingLess, LessAtCut, PendingName, PendingBang, PendingBangDash, PendingOpening, InContent}
 use Rattle.place_core.specs.page.Tags.{Tag, ValueState, OfKind, OfUrl, OfStyle, fed_state, languages, Quoting, DoubleQuoted, SingleQuoted, Unquoted, Value, ValueOf, Deciding, element_on, is_second_type, tag_of_name, with_bytes, tag_with_value, without_value, OfScript}
 use Rattle.place_core.specs.declared.element.Element.{Element}
 use Rattle.place_core.specs.declared.element.Element.TheVariants as element
@@ -24,7 +32,7 @@ use Rattle.place_core.specs.declared.tag_of.TagOf.{TagOf}
 use Rattle.place_core.specs.declared.tag_of.TagOf.TheVariants as which
 use Rattle.place_core.specs.declared.value_place.ValuePlace.{ValuePlace}
 use Rattle.place_core.proofs.Semilattices.{none_some, one_value}
-use Rattle.html_scan.specs.Scans.{Scan, At, AfterLess, AfterLessSolidus, InDeclaration, InTagName, InAttributeName, InCommentEnd, InContentEnd, InStyleElement, InUrl, InStyle, InScript, BeforeType, InType, element_scan, scan_cut_error, scan_error, scan_next, style_feeding, style_less_cause, style_scan, url_scan, with_style}
+use Rattle.html_scan.specs.Scans.{Scan, At, AfterLess, AfterLessSolidus, InDeclaration, InTagName, InAttributeName, InCommentEnd, InContentEnd, InStyleElement, InScriptElement, InUrl, InStyle, InScript, BeforeType, InType, element_scan, scan_cut_error, scan_error, scan_next, style_feeding, style_less_cause, style_scan, url_scan, with_style}
 use Rattle.css_lexer.specs.States.{Style}
 use Rattle.css_step.proofs.OneStylePath.{exact-on-one-style}
 use Rattle.css_step.proofs.StyleGrowth.{styles-grow}
@@ -38,13 +46,14 @@ use Rattle.html_step.proofs.StylePaths.{style_value}
 use Rattle.html_step.proofs.ElementSteps.{element-scan-error}
 use Rattle.html_step.proofs.ElementsBelow.{ElementUnder, under-element}
 use Rattle.html_step.proofs.FedAlike.{first-caused}
-use Rattle.html_step.proofs.PathScans.{WhereScanned, content_scanned, element_scanned, scanned, style_element_scanned, style_value_scanned, url_scanned, script_there, script_unless_placed, script_value_scanned}
+use Rattle.html_step.proofs.PathScans.{WhereScanned, content_scanned, element_scanned, scanned, script_element_scanned, style_element_scanned, style_value_scanned, url_scanned, script_there, script_unless_placed, script_value_scanned}
 use Rattle.html_step.proofs.OneTexts.{agrees-at, at-place}
 use Rattle.html_step.proofs.ValidSteps.{scan-valid}
 use Rattle.html_step.proofs.WholeTexts.{end-ok, grows-text, step-ok, text-steps}
 use Rattle.html_step.specs.Steps.{scan_read_behind, stepped}
 use Rattle.url_lexer.specs.Triples.{Triple, NoTriple, AfterPercent, AfterDigit}
 use Rattle.text_norm.proofs.ElementsSame.{below-cut, element-cut, element-open, element-out, paths-write, scans-write}
+use Rattle.text_norm.proofs.ScriptElementsSame.{nothing-cut, path-ends, path-mode, script-cut-same, script-out-same, script-paths-write, script-scans-write, under-ends, under-mode}
 use Rattle.text_norm.proofs.WritingsAlike.{content-cut-same, content-same}
 use Rattle.text_norm.specs.Laws.{WrittenOnPaths}
 use Rattle.place_core.specs.place.StatePlaces.{only_after, only_inside, placed, quotes_at, tag_spot}
@@ -56,27 +65,34 @@ record Same (f g : Scan) (c : Class) (b : ℕ) (r : Reference) : Type 0 where
   outs : scan_out f c b r ≡ scan_out g c b r
   opens : scan_open f c b r ≡ scan_open g c b r
 
-place-same : (a p : Place) (c : Class) (b : ℕ) (r : Reference) → Below a p → scan_error (At p) c b ≡ None → Same (At a) (At p) c b r
-place-same place.Text place.Text c b r h n = record { outs = refl; opens = refl }
-place-same place.Doctype place.Doctype c b r h n = record { outs = refl; opens = refl }
-place-same (place.Comment x) (place.Comment y) c b r h n = record { outs = refl; opens = refl }
-place-same (place.Rcdata x) (place.Rcdata y) c b r h n =
+script-starts : (x y : Js) → IsValidJs x → Below (place.Script x) (place.Script y) → ScriptUnder (script_scan_start x) (script_scan_start y)
+script-starts x y v h = scripts-in-order x y v (below-js x y (js-below-place x y h))
+
+place-same : (a p : Place) (c : Class) (b : ℕ) (r : Reference) → class_of b ≡ c → IsValid a → Below a p → scan_error (At p) c b ≡ None → Same (At a) (At p) c b r
+place-same place.Text place.Text c b r i v h n = record { outs = refl; opens = refl }
+place-same place.Doctype place.Doctype c b r i v h n = record { outs = refl; opens = refl }
+place-same (place.Comment x) (place.Comment y) c b r i v h n = record { outs = refl; opens = refl }
+place-same (place.Rcdata x) (place.Rcdata y) c b r i v h n =
     (let e = below-rcdata x y h in record { outs = ap (λ (z : Element). scan_out (At (place.Rcdata z)) c b r) e; opens = ap (λ (z : Element). scan_open (At (place.Rcdata z)) c b r) e })
-place-same (place.Tag x) (place.Tag y) c b r h n = record { outs = refl; opens = refl }
-place-same (place.Value x) (place.Value y) c b r h n = record { outs = refl; opens = refl }
-place-same (place.Script x) (place.Script y) c b r h n = record { outs = refl; opens = refl }
-place-same (place.Style x) (place.Style y) c b r h n =
+place-same (place.Tag x) (place.Tag y) c b r i v h n = record { outs = refl; opens = refl }
+place-same (place.Value x) (place.Value y) c b r i v h n = record { outs = refl; opens = refl }
+place-same (place.Script x) (place.Script y) c b r i v h n =
+    record {
+      outs = script-out-same script-scans-write element.Script Nothing c b (script_scan_start x) (script_scan_start y) (script-starts x y v h) i (inl refl) n;
+      opens = refl;
+    }
+place-same (place.Style x) (place.Style y) c b r i v h n =
     record { outs = content-same scans-write element.Style Nothing c b (style_scan_start x) (style_scan_start y) (styles-grow.places x y (style-below-place x y h)).start n; opens = refl }
-place-same (place.Block x) (place.Block y) c b r h n = record { outs = refl; opens = refl }
-place-same place.Text p c b r h n = absurd (none_some p h)
-place-same place.Doctype p c b r h n = absurd (none_some p h)
-place-same (place.Comment x) p c b r h n = absurd (none_some p h)
-place-same (place.Rcdata x) p c b r h n = absurd (none_some p h)
-place-same (place.Tag x) p c b r h n = absurd (none_some p h)
-place-same (place.Value x) p c b r h n = absurd (none_some p h)
-place-same (place.Script x) p c b r h n = absurd (none_some p h)
-place-same (place.Style x) p c b r h n = absurd (none_some p h)
-place-same (place.Block x) p c b r h n = absurd (none_some p h)
+place-same (place.Block x) (place.Block y) c b r i v h n = record { outs = refl; opens = refl }
+place-same place.Text p c b r i v h n = absurd (none_some p h)
+place-same place.Doctype p c b r i v h n = absurd (none_some p h)
+place-same (place.Comment x) p c b r i v h n = absurd (none_some p h)
+place-same (place.Rcdata x) p c b r i v h n = absurd (none_some p h)
+place-same (place.Tag x) p c b r i v h n = absurd (none_some p h)
+place-same (place.Value x) p c b r i v h n = absurd (none_some p h)
+place-same (place.Script x) p c b r i v h n = absurd (none_some p h)
+place-same (place.Style x) p c b r i v h n = absurd (none_some p h)
+place-same (place.Block x) p c b r i v h n = absurd (none_some p h)
 
 rigid : (f g : Scan) (c : Class) (b : ℕ) (r : Reference) → f ≡ g → Same f g c b r
 rigid f g c b r e = record { outs = ap (λ (z : Scan). scan_out z c b r) e; opens = ap (λ (z : Scan). scan_open z c b r) e }
@@ -96,61 +112,75 @@ style-same v n z (At p) c b r h = absurd h.0
 style-same v n z (InStyle w m y) c b r h = record { outs = refl; opens = refl }
 style-same v n z g c b r h = absurd h
 
-scan-same : (f g : Scan) (c : Class) (b : ℕ) (r : Reference) → ScanBelow f g → scan_error g c b ≡ None → Same f g c b r
-scan-same (At a) (At p) c b r h taken = place-same a p c b r h taken
-scan-same (At a) AfterLess c b r h taken = absurd h
-scan-same (At a) AfterLessSolidus c b r h taken = absurd h
-scan-same (At a) (InDeclaration pending) c b r h taken = absurd h
-scan-same (At a) (InTagName ends name) c b r h taken = absurd h
-scan-same (At a) (InAttributeName t x n) c b r h taken = absurd h
-scan-same (At a) (InCommentEnd s) c b r h taken = absurd h
-scan-same (At a) (InStyle w y u) c b r h taken = absurd h
-scan-same (At a) (InScript w y u) c b r h taken = absurd h
-scan-same (At a) (InContentEnd e k) c b r h taken = absurd h
-scan-same (At a) (InUrl v t z) c b r h taken = absurd h
-scan-same (At a) (InStyleElement s k) c b r h taken = absurd h
-scan-same (At a) (BeforeType t) c b r h taken = absurd h
-scan-same (At a) (InType t q v z) c b r h taken = absurd h
-scan-same (InAttributeName t x n) (InAttributeName u y m) c b r h taken = record { outs = refl; opens = refl }
-scan-same (InAttributeName t x n) (At p) c b r h taken = absurd h
-scan-same (InAttributeName t x n) AfterLess c b r h taken = absurd h
-scan-same (InAttributeName t x n) AfterLessSolidus c b r h taken = absurd h
-scan-same (InAttributeName t x n) (InDeclaration pending) c b r h taken = absurd h
-scan-same (InAttributeName t x n) (InTagName ends name) c b r h taken = absurd h
-scan-same (InAttributeName t x n) (InCommentEnd s) c b r h taken = absurd h
-scan-same (InAttributeName t x n) (InStyle w y u) c b r h taken = absurd h
-scan-same (InAttributeName t x n) (InScript w y u) c b r h taken = absurd h
-scan-same (InAttributeName t x n) (InContentEnd e k) c b r h taken = absurd h
-scan-same (InAttributeName t x n) (InUrl v u z) c b r h taken = absurd h
-scan-same (InAttributeName t x n) (InStyleElement s k) c b r h taken = absurd h
-scan-same (InAttributeName t x n) (BeforeType u) c b r h taken = absurd h
-scan-same (InAttributeName t x n) (InType u q v z) c b r h taken = absurd h
-scan-same (InUrl v t z) (InUrl w u y) c b r h taken = record { outs = refl; opens = refl }
-scan-same (InUrl v t z) (At p) c b r h taken = absurd h
-scan-same (InUrl v t z) AfterLess c b r h taken = absurd h
-scan-same (InUrl v t z) AfterLessSolidus c b r h taken = absurd h
-scan-same (InUrl v t z) (InDeclaration pending) c b r h taken = absurd h
-scan-same (InUrl v t z) (InTagName ends name) c b r h taken = absurd h
-scan-same (InUrl v t z) (InAttributeName u x n) c b r h taken = absurd h
-scan-same (InUrl v t z) (InCommentEnd s) c b r h taken = absurd h
-scan-same (InUrl v t z) (InStyle w y u) c b r h taken = absurd h
-scan-same (InUrl v t z) (InScript w y u) c b r h taken = absurd h
-scan-same (InUrl v t z) (InStyleElement s k) c b r h taken = absurd h
-scan-same (InUrl v t z) (InContentEnd e k) c b r h taken = absurd h
-scan-same (InUrl v t z) (BeforeType u) c b r h taken = absurd h
-scan-same (InUrl v t z) (InType u q x y) c b r h taken = absurd h
-scan-same (InStyle v s z) g c b r h taken = style-same v s z g c b r h
-scan-same (InScript v n z) (InScript w m y) c b r h taken = record { outs = refl; opens = refl }
-scan-same (InScript v n z) g c b r h taken = absurd h
-scan-same (InStyleElement s k) g c b r h taken = element-same s k g c b r h taken
-scan-same AfterLess g c b r h taken = rigid AfterLess g c b r h
-scan-same AfterLessSolidus g c b r h taken = rigid AfterLessSolidus g c b r h
-scan-same (InDeclaration pending) g c b r h taken = rigid (InDeclaration pending) g c b r h
-scan-same (InTagName ends name) g c b r h taken = rigid (InTagName ends name) g c b r h
-scan-same (InCommentEnd s) g c b r h taken = rigid (InCommentEnd s) g c b r h
-scan-same (InContentEnd e k) g c b r h taken = rigid (InContentEnd e k) g c b r h
-scan-same (BeforeType t) g c b r h taken = rigid (BeforeType t) g c b r h
-scan-same (InType t q v z) g c b r h taken = rigid (InType t q v z) g c b r h
+-- in the element `script`
+script-element-same : (n m : ScriptScan) (h k : Pending) (c : Class) (b : ℕ) (r : Reference) → class_of b ≡ c → ScriptUnder n m → h ≡ k → DoesAlike n m k → scan_error (InScriptElement m k) c b ≡ None
+    → Same (InScriptElement n h) (InScriptElement m k) c b r
+script-element-same n m h k c b r i u e d t =
+    subst (λ (z : Pending). Same (InScriptElement n z) (InScriptElement m k) c b r) (sym e) (record {
+      outs = script-out-same script-scans-write element.Script k c b n m u i (under-mode n m k u d) t;
+      opens = refl;
+    })
+
+scan-same : (f g : Scan) (c : Class) (b : ℕ) (r : Reference) → class_of b ≡ c → ScanValid f → ScanBelow f g → scan_error g c b ≡ None → Same f g c b r
+scan-same (At a) (At p) c b r i v h taken = place-same a p c b r i v h taken
+scan-same (At a) AfterLess c b r i v h taken = absurd h
+scan-same (At a) AfterLessSolidus c b r i v h taken = absurd h
+scan-same (At a) (InDeclaration pending) c b r i v h taken = absurd h
+scan-same (At a) (InTagName ends name) c b r i v h taken = absurd h
+scan-same (At a) (InAttributeName t x n) c b r i v h taken = absurd h
+scan-same (At a) (InCommentEnd s) c b r i v h taken = absurd h
+scan-same (At a) (InStyle w y u) c b r i v h taken = absurd h
+scan-same (At a) (InScript w y u) c b r i v h taken = absurd h
+scan-same (At a) (InContentEnd e k) c b r i v h taken = absurd h
+scan-same (At a) (InUrl v t z) c b r i valid h taken = absurd h
+scan-same (At a) (InStyleElement s k) c b r i v h taken = absurd h
+scan-same (At a) (InScriptElement s k) c b r i v h taken = absurd h
+scan-same (At a) (BeforeType t) c b r i v h taken = absurd h
+scan-same (At a) (InType t q v z) c b r i valid h taken = absurd h
+scan-same (InAttributeName t x n) (InAttributeName u y m) c b r i v h taken = record { outs = refl; opens = refl }
+scan-same (InAttributeName t x n) (At p) c b r i v h taken = absurd h
+scan-same (InAttributeName t x n) AfterLess c b r i v h taken = absurd h
+scan-same (InAttributeName t x n) AfterLessSolidus c b r i v h taken = absurd h
+scan-same (InAttributeName t x n) (InDeclaration pending) c b r i v h taken = absurd h
+scan-same (InAttributeName t x n) (InTagName ends name) c b r i v h taken = absurd h
+scan-same (InAttributeName t x n) (InCommentEnd s) c b r i v h taken = absurd h
+scan-same (InAttributeName t x n) (InStyle w y u) c b r i v h taken = absurd h
+scan-same (InAttributeName t x n) (InScript w y u) c b r i v h taken = absurd h
+scan-same (InAttributeName t x n) (InContentEnd e k) c b r i v h taken = absurd h
+scan-same (InAttributeName t x n) (InUrl v u z) c b r i valid h taken = absurd h
+scan-same (InAttributeName t x n) (InStyleElement s k) c b r i v h taken = absurd h
+scan-same (InAttributeName t x n) (InScriptElement s k) c b r i v h taken = absurd h
+scan-same (InAttributeName t x n) (BeforeType u) c b r i v h taken = absurd h
+scan-same (InAttributeName t x n) (InType u q v z) c b r i valid h taken = absurd h
+scan-same (InUrl v t z) (InUrl w u y) c b r i valid h taken = record { outs = refl; opens = refl }
+scan-same (InUrl v t z) (At p) c b r i valid h taken = absurd h
+scan-same (InUrl v t z) AfterLess c b r i valid h taken = absurd h
+scan-same (InUrl v t z) AfterLessSolidus c b r i valid h taken = absurd h
+scan-same (InUrl v t z) (InDeclaration pending) c b r i valid h taken = absurd h
+scan-same (InUrl v t z) (InTagName ends name) c b r i valid h taken = absurd h
+scan-same (InUrl v t z) (InAttributeName u x n) c b r i valid h taken = absurd h
+scan-same (InUrl v t z) (InCommentEnd s) c b r i valid h taken = absurd h
+scan-same (InUrl v t z) (InStyle w y u) c b r i valid h taken = absurd h
+scan-same (InUrl v t z) (InScript w y u) c b r i valid h taken = absurd h
+scan-same (InUrl v t z) (InStyleElement s k) c b r i valid h taken = absurd h
+scan-same (InUrl v t z) (InScriptElement s k) c b r i valid h taken = absurd h
+scan-same (InUrl v t z) (InContentEnd e k) c b r i valid h taken = absurd h
+scan-same (InUrl v t z) (BeforeType u) c b r i valid h taken = absurd h
+scan-same (InUrl v t z) (InType u q x y) c b r i valid h taken = absurd h
+scan-same (InStyle v s z) g c b r i valid h taken = style-same v s z g c b r h
+scan-same (InScript v n z) (InScript w m y) c b r i valid h taken = record { outs = refl; opens = refl }
+scan-same (InScript v n z) g c b r i valid h taken = absurd h
+scan-same (InStyleElement s k) g c b r i v h taken = element-same s k g c b r h taken
+scan-same (InScriptElement n k) (InScriptElement m l) c b r i v h taken = script-element-same n m k l c b r i h.0 h.1 h.2 taken
+scan-same (InScriptElement n k) g c b r i v h taken = absurd h
+scan-same AfterLess g c b r i v h taken = rigid AfterLess g c b r h
+scan-same AfterLessSolidus g c b r i v h taken = rigid AfterLessSolidus g c b r h
+scan-same (InDeclaration pending) g c b r i v h taken = rigid (InDeclaration pending) g c b r h
+scan-same (InTagName ends name) g c b r i v h taken = rigid (InTagName ends name) g c b r h
+scan-same (InCommentEnd s) g c b r i v h taken = rigid (InCommentEnd s) g c b r h
+scan-same (InContentEnd e k) g c b r i v h taken = rigid (InContentEnd e k) g c b r h
+scan-same (BeforeType t) g c b r i v h taken = rigid (BeforeType t) g c b r h
+scan-same (InType t q v z) g c b r i valid h taken = rigid (InType t q v z) g c b r h
 
 element-cut-same : (s : StyleScan) (k : Pending) (g : Scan) (r : Reference) → ElementUnder s k g → scan_cut_error g ≡ None → scan_cut_out (InStyleElement s k) r ≡ scan_cut_out g r
 element-cut-same s k g r u n =
@@ -158,25 +188,25 @@ element-cut-same s k g r u n =
     (λ m l e. content-cut-same scans-write k s m l (first-caused (pending_error style_feeding m (pending_bytes k)) (split_error style_less_cause m k) e).0)
     (λ d i l e. subst (λ (x : Pending). scan_cut_out (InStyleElement s x) r ≡ scan_cut_out (At (place.Style d)) r) (sym i) (below-cut s (style_scan_start d) l)) n
 
-place-cut-same : (a p : Place) (r : Reference) → Below a p → scan_cut_out (At a) r ≡ scan_cut_out (At p) r
-place-cut-same place.Text place.Text r h = refl
-place-cut-same place.Doctype place.Doctype r h = refl
-place-cut-same (place.Comment x) (place.Comment y) r h = refl
-place-cut-same (place.Rcdata x) (place.Rcdata y) r h = refl
-place-cut-same (place.Tag x) (place.Tag y) r h = refl
-place-cut-same (place.Value x) (place.Value y) r h = refl
-place-cut-same (place.Script x) (place.Script y) r h = refl
-place-cut-same (place.Style x) (place.Style y) r h = below-cut (style_scan_start x) (style_scan_start y) (styles-grow.places x y (style-below-place x y h)).start
-place-cut-same (place.Block x) (place.Block y) r h = refl
-place-cut-same place.Text p r h = absurd (none_some p h)
-place-cut-same place.Doctype p r h = absurd (none_some p h)
-place-cut-same (place.Comment x) p r h = absurd (none_some p h)
-place-cut-same (place.Rcdata x) p r h = absurd (none_some p h)
-place-cut-same (place.Tag x) p r h = absurd (none_some p h)
-place-cut-same (place.Value x) p r h = absurd (none_some p h)
-place-cut-same (place.Script x) p r h = absurd (none_some p h)
-place-cut-same (place.Style x) p r h = absurd (none_some p h)
-place-cut-same (place.Block x) p r h = absurd (none_some p h)
+place-cut-same : (a p : Place) (r : Reference) → IsValid a → Below a p → scan_cut_out (At a) r ≡ scan_cut_out (At p) r
+place-cut-same place.Text place.Text r v h = refl
+place-cut-same place.Doctype place.Doctype r v h = refl
+place-cut-same (place.Comment x) (place.Comment y) r v h = refl
+place-cut-same (place.Rcdata x) (place.Rcdata y) r v h = refl
+place-cut-same (place.Tag x) (place.Tag y) r v h = refl
+place-cut-same (place.Value x) (place.Value y) r v h = refl
+place-cut-same (place.Script x) (place.Script y) r v h = under-ends (script_scan_start x) (script_scan_start y) (script-starts x y v h)
+place-cut-same (place.Style x) (place.Style y) r v h = below-cut (style_scan_start x) (style_scan_start y) (styles-grow.places x y (style-below-place x y h)).start
+place-cut-same (place.Block x) (place.Block y) r v h = refl
+place-cut-same place.Text p r v h = absurd (none_some p h)
+place-cut-same place.Doctype p r v h = absurd (none_some p h)
+place-cut-same (place.Comment x) p r v h = absurd (none_some p h)
+place-cut-same (place.Rcdata x) p r v h = absurd (none_some p h)
+place-cut-same (place.Tag x) p r v h = absurd (none_some p h)
+place-cut-same (place.Value x) p r v h = absurd (none_some p h)
+place-cut-same (place.Script x) p r v h = absurd (none_some p h)
+place-cut-same (place.Style x) p r v h = absurd (none_some p h)
+place-cut-same (place.Block x) p r v h = absurd (none_some p h)
 
 style-cut-same : (v : ValuePlace) (n : StyleScan) (z : Reference) (g : Scan) (r : Reference) → StyleUnder v n z g
     → scan_cut_out (InStyle v n z) r ≡ scan_cut_out g r
@@ -185,61 +215,71 @@ style-cut-same v n z (At p) r h = absurd h.0
 style-cut-same v n z (InStyle w m y) r h = refl
 style-cut-same v n z g r h = absurd h
 
-cut-same : (f g : Scan) (r : Reference) → ScanBelow f g → scan_cut_error g ≡ None → scan_cut_out f r ≡ scan_cut_out g r
-cut-same (At a) (At p) r h taken = place-cut-same a p r h
-cut-same (At a) AfterLess r h taken = absurd h
-cut-same (At a) AfterLessSolidus r h taken = absurd h
-cut-same (At a) (InDeclaration pending) r h taken = absurd h
-cut-same (At a) (InTagName ends name) r h taken = absurd h
-cut-same (At a) (InAttributeName t x n) r h taken = absurd h
-cut-same (At a) (InCommentEnd s) r h taken = absurd h
-cut-same (At a) (InStyle w y u) r h taken = absurd h
-cut-same (At a) (InScript w y u) r h taken = absurd h
-cut-same (At a) (InContentEnd e k) r h taken = absurd h
-cut-same (At a) (InUrl v t z) r h taken = absurd h
-cut-same (At a) (InStyleElement s k) r h taken = absurd h
-cut-same (At a) (BeforeType t) r h taken = absurd h
-cut-same (At a) (InType t q v z) r h taken = absurd h
-cut-same (InAttributeName t x n) (InAttributeName u y m) r h taken = refl
-cut-same (InAttributeName t x n) (At p) r h taken = absurd h
-cut-same (InAttributeName t x n) AfterLess r h taken = absurd h
-cut-same (InAttributeName t x n) AfterLessSolidus r h taken = absurd h
-cut-same (InAttributeName t x n) (InDeclaration pending) r h taken = absurd h
-cut-same (InAttributeName t x n) (InTagName ends name) r h taken = absurd h
-cut-same (InAttributeName t x n) (InCommentEnd s) r h taken = absurd h
-cut-same (InAttributeName t x n) (InStyle w y u) r h taken = absurd h
-cut-same (InAttributeName t x n) (InScript w y u) r h taken = absurd h
-cut-same (InAttributeName t x n) (InContentEnd e k) r h taken = absurd h
-cut-same (InAttributeName t x n) (InUrl v u z) r h taken = absurd h
-cut-same (InAttributeName t x n) (InStyleElement s k) r h taken = absurd h
-cut-same (InAttributeName t x n) (BeforeType u) r h taken = absurd h
-cut-same (InAttributeName t x n) (InType u q v z) r h taken = absurd h
-cut-same (InUrl v t z) (InUrl w u y) r h taken = refl
-cut-same (InUrl v t z) (At p) r h taken = absurd h
-cut-same (InUrl v t z) AfterLess r h taken = absurd h
-cut-same (InUrl v t z) AfterLessSolidus r h taken = absurd h
-cut-same (InUrl v t z) (InDeclaration pending) r h taken = absurd h
-cut-same (InUrl v t z) (InTagName ends name) r h taken = absurd h
-cut-same (InUrl v t z) (InAttributeName u x n) r h taken = absurd h
-cut-same (InUrl v t z) (InCommentEnd s) r h taken = absurd h
-cut-same (InUrl v t z) (InStyle w y u) r h taken = absurd h
-cut-same (InUrl v t z) (InScript w y u) r h taken = absurd h
-cut-same (InUrl v t z) (InStyleElement s k) r h taken = absurd h
-cut-same (InUrl v t z) (InContentEnd e k) r h taken = absurd h
-cut-same (InUrl v t z) (BeforeType u) r h taken = absurd h
-cut-same (InUrl v t z) (InType u q x y) r h taken = absurd h
-cut-same (InStyle v s w) g r h taken = style-cut-same v s w g r h
-cut-same (InScript v n z) (InScript w m y) r h taken = refl
-cut-same (InScript v n z) g r h taken = absurd h
-cut-same (InStyleElement s k) g r h taken = element-cut-same s k g r h taken
-cut-same AfterLess g r h taken = ap (λ (z : Scan). scan_cut_out z r) h
-cut-same AfterLessSolidus g r h taken = ap (λ (z : Scan). scan_cut_out z r) h
-cut-same (InDeclaration pending) g r h taken = ap (λ (z : Scan). scan_cut_out z r) h
-cut-same (InTagName ends name) g r h taken = ap (λ (z : Scan). scan_cut_out z r) h
-cut-same (InCommentEnd s) g r h taken = ap (λ (z : Scan). scan_cut_out z r) h
-cut-same (InContentEnd e k) g r h taken = ap (λ (z : Scan). scan_cut_out z r) h
-cut-same (BeforeType t) g r h taken = ap (λ (z : Scan). scan_cut_out z r) h
-cut-same (InType t q v w) g r h taken = ap (λ (z : Scan). scan_cut_out z r) h
+script-element-cut-same : (n m : ScriptScan) (h k : Pending) (r : Reference) → ScriptUnder n m → h ≡ k → DoesAlike n m k → scan_cut_error (InScriptElement m k) ≡ None
+    → scan_cut_out (InScriptElement n h) r ≡ scan_cut_out (InScriptElement m k) r
+script-element-cut-same n m h k r u e d t =
+    subst (λ (z : Pending). scan_cut_out (InScriptElement n z) r ≡ scan_cut_out (InScriptElement m k) r) (sym e) (script-cut-same script-scans-write k n m u (under-mode n m k u d) t)
+
+cut-same : (f g : Scan) (r : Reference) → ScanValid f → ScanBelow f g → scan_cut_error g ≡ None → scan_cut_out f r ≡ scan_cut_out g r
+cut-same (At a) (At p) r valid h taken = place-cut-same a p r valid h
+cut-same (At a) AfterLess r valid h taken = absurd h
+cut-same (At a) AfterLessSolidus r valid h taken = absurd h
+cut-same (At a) (InDeclaration pending) r valid h taken = absurd h
+cut-same (At a) (InTagName ends name) r valid h taken = absurd h
+cut-same (At a) (InAttributeName t x n) r valid h taken = absurd h
+cut-same (At a) (InCommentEnd s) r valid h taken = absurd h
+cut-same (At a) (InStyle w y u) r valid h taken = absurd h
+cut-same (At a) (InScript w y u) r valid h taken = absurd h
+cut-same (At a) (InContentEnd e k) r valid h taken = absurd h
+cut-same (At a) (InUrl v t z) r valid h taken = absurd h
+cut-same (At a) (InStyleElement s k) r valid h taken = absurd h
+cut-same (At a) (InScriptElement s k) r valid h taken = absurd h
+cut-same (At a) (BeforeType t) r valid h taken = absurd h
+cut-same (At a) (InType t q v z) r valid h taken = absurd h
+cut-same (InAttributeName t x n) (InAttributeName u y m) r valid h taken = refl
+cut-same (InAttributeName t x n) (At p) r valid h taken = absurd h
+cut-same (InAttributeName t x n) AfterLess r valid h taken = absurd h
+cut-same (InAttributeName t x n) AfterLessSolidus r valid h taken = absurd h
+cut-same (InAttributeName t x n) (InDeclaration pending) r valid h taken = absurd h
+cut-same (InAttributeName t x n) (InTagName ends name) r valid h taken = absurd h
+cut-same (InAttributeName t x n) (InCommentEnd s) r valid h taken = absurd h
+cut-same (InAttributeName t x n) (InStyle w y u) r valid h taken = absurd h
+cut-same (InAttributeName t x n) (InScript w y u) r valid h taken = absurd h
+cut-same (InAttributeName t x n) (InContentEnd e k) r valid h taken = absurd h
+cut-same (InAttributeName t x n) (InUrl v u z) r valid h taken = absurd h
+cut-same (InAttributeName t x n) (InStyleElement s k) r valid h taken = absurd h
+cut-same (InAttributeName t x n) (InScriptElement s k) r valid h taken = absurd h
+cut-same (InAttributeName t x n) (BeforeType u) r valid h taken = absurd h
+cut-same (InAttributeName t x n) (InType u q v z) r valid h taken = absurd h
+cut-same (InUrl v t z) (InUrl w u y) r valid h taken = refl
+cut-same (InUrl v t z) (At p) r valid h taken = absurd h
+cut-same (InUrl v t z) AfterLess r valid h taken = absurd h
+cut-same (InUrl v t z) AfterLessSolidus r valid h taken = absurd h
+cut-same (InUrl v t z) (InDeclaration pending) r valid h taken = absurd h
+cut-same (InUrl v t z) (InTagName ends name) r valid h taken = absurd h
+cut-same (InUrl v t z) (InAttributeName u x n) r valid h taken = absurd h
+cut-same (InUrl v t z) (InCommentEnd s) r valid h taken = absurd h
+cut-same (InUrl v t z) (InStyle w y u) r valid h taken = absurd h
+cut-same (InUrl v t z) (InScript w y u) r valid h taken = absurd h
+cut-same (InUrl v t z) (InStyleElement s k) r valid h taken = absurd h
+cut-same (InUrl v t z) (InScriptElement s k) r valid h taken = absurd h
+cut-same (InUrl v t z) (InContentEnd e k) r valid h taken = absurd h
+cut-same (InUrl v t z) (BeforeType u) r valid h taken = absurd h
+cut-same (InUrl v t z) (InType u q x y) r valid h taken = absurd h
+cut-same (InStyle v s w) g r valid h taken = style-cut-same v s w g r h
+cut-same (InScript v n z) (InScript w m y) r valid h taken = refl
+cut-same (InScript v n z) g r valid h taken = absurd h
+cut-same (InStyleElement s k) g r valid h taken = element-cut-same s k g r h taken
+cut-same (InScriptElement n k) (InScriptElement m l) r valid h taken = script-element-cut-same n m k l r h.0 h.1 h.2 taken
+cut-same (InScriptElement n k) g r valid h taken = absurd h
+cut-same AfterLess g r valid h taken = ap (λ (z : Scan). scan_cut_out z r) h
+cut-same AfterLessSolidus g r valid h taken = ap (λ (z : Scan). scan_cut_out z r) h
+cut-same (InDeclaration pending) g r valid h taken = ap (λ (z : Scan). scan_cut_out z r) h
+cut-same (InTagName ends name) g r valid h taken = ap (λ (z : Scan). scan_cut_out z r) h
+cut-same (InCommentEnd s) g r valid h taken = ap (λ (z : Scan). scan_cut_out z r) h
+cut-same (InContentEnd e k) g r valid h taken = ap (λ (z : Scan). scan_cut_out z r) h
+cut-same (BeforeType t) g r valid h taken = ap (λ (z : Scan). scan_cut_out z r) h
+cut-same (InType t q v w) g r valid h taken = ap (λ (z : Scan). scan_cut_out z r) h
 
 -- The reference that is open in a state; none is told of what no path comes to: after a `<` in a title none is open any more.
 abbrev pub opened : LexState ValueState → Option Reference
@@ -406,6 +446,7 @@ block-opens LessAtCut e c b = block-loose-opens e c b
 block-opens (PendingName letters) e c b = block-end-opens (may_be_name_of e (letters ++ b ∷ [])) (is_name_of e letters) e letters c b
 block-opens PendingBang e c b = block-bang-opens e c b
 block-opens PendingBangDash e c b = block-loose-opens e c b
+block-opens (PendingOpening letters) e c b = block-loose-opens e c b
 
 -- A state and its scan state: what is written at a byte, and the reference that is open after it.
 record Writes (s : LexState ValueState) (f : Scan) (c : Class) (b : ℕ) (r : Reference) : Type 0 where
@@ -544,6 +585,7 @@ no-scan (PendingName letters) = (refl, refl, refl, refl)
 no-scan LessAtCut = (refl, refl, refl, refl)
 no-scan PendingBang = (refl, refl, refl, refl)
 no-scan PendingBangDash = (refl, refl, refl, refl)
+no-scan (PendingOpening letters) = (refl, refl, refl, refl)
 
 content-writes : (e : Element) (a : Reference) (h : Pending) (c : Class) (b : ℕ) → WritesAt (InContent e (Characters a) h) c b
 content-writes element.Title a Nothing c b = λ r e taken. at-one (InContent element.Title (Characters a) Nothing) _ c b a r e (record { outs = refl; opens = loose-opens element.Title a c b })
@@ -563,9 +605,11 @@ content-writes element.Textarea (Open f bytes) (PendingName letters) c b = λ r 
 content-writes element.Title a LessAtCut c b = tt
 content-writes element.Title a PendingBang c b = tt
 content-writes element.Title a PendingBangDash c b = tt
+content-writes element.Title a (PendingOpening letters) c b = tt
 content-writes element.Textarea a LessAtCut c b = tt
 content-writes element.Textarea a PendingBang c b = tt
 content-writes element.Textarea a PendingBangDash c b = tt
+content-writes element.Textarea a (PendingOpening letters) c b = tt
 content-writes element.Other a h c b = none-scanned element.Other h a c b (no-scan h).0
 content-writes element.Style a h c b = none-scanned element.Style h a c b (no-scan h).1
 content-writes element.Script a h c b = none-scanned element.Script h a c b (no-scan h).2
@@ -584,6 +628,8 @@ block-writes e LessAtCut c b = tt
 block-writes e (PendingName letters) c b = tt
 block-writes e PendingBang c b = tt
 block-writes e PendingBangDash c b = tt
+block-writes element.DataBlock (PendingOpening letters) c b = tt
+block-writes e (PendingOpening letters) c b = tt
 
 -- the element `style`
 language-loose-opens : (e : Element) (v : ValueState) (c : Class) (b : ℕ) → opened (next_loose languages c b e (InLanguage v)) ≡ Some Closed
@@ -619,15 +665,44 @@ style-writes-in s n (PendingName letters) c b i = λ r e taken.
 style-writes-in s n LessAtCut c b i = tt
 style-writes-in s n PendingBang c b i = tt
 style-writes-in s n PendingBangDash c b i = tt
+style-writes-in s n (PendingOpening letters) c b i = tt
 
 style-element-writes : (s : Style Url) (h : Pending) (o : Option StyleScan) (c : Class) (b : ℕ) → style_scanned s ≡ o
     → WhereScanned (style_element_scanned h o) (WritesFrom (InContent element.Style (InLanguage (OfStyle s)) h) c b)
 style-element-writes s h None c b e = tt
 style-element-writes s h (Some n) c b e = style-writes-in s n h c b (exact-on-one-style.has_scan s n e)
 
-language-writes : (e : Element) (v : ValueState) (h : Pending) (c : Class) (b : ℕ) → WritesAt (InContent e (InLanguage v) h) c b
-language-writes element.Style (OfStyle s) h c b = style-element-writes s h (style_scanned s) c b refl
-language-writes e v h c b = tt
+-- the element `script`
+behind-tag-opens : (c : Class) → opened (behind_end_tag {B = ValueState} c) ≡ Some Closed
+behind-tag-opens White = refl
+behind-tag-opens Solidus = refl
+behind-tag-opens c = refl
+
+step-opens : (x : ScriptStep) (c : Class) (e : Element) (v : ScriptState) → opened (next_by_step languages x c e (OfScript v)) ≡ Some Closed
+step-opens (Reads bytes h) c e v = refl
+step-opens (EndsContent letters) c e v = behind-tag-opens c
+
+script-writes-in : (v : ScriptState) (h : Pending) (c : Class) (b : ℕ) → class_of b ≡ c
+    → WhereScanned (script_element_scanned h v) (WritesFrom (InContent element.Script (InLanguage (OfScript v)) h) c b)
+script-writes-in v h c b i =
+    let s = InContent element.Script (InLanguage (OfScript v)) h in
+    let opens = step-opens (script_step (script_may_end v) element.Script h c b) c element.Script v in
+    where-script-element h v (WritesFrom s c b)
+    (λ j e k. let o = one-stand v j (ap (option_map body.Js) k) in
+    subst (λ (g : Pending). WritesFrom (InContent element.Script (InLanguage (OfScript v)) g) c b (At (place.Script j))) (sym e)
+    (λ r z taken. at-one (InContent element.Script (InLanguage (OfScript v)) Nothing) (At (place.Script j)) c b Closed r z (record {
+      outs = script-out-same script-paths-write element.Script Nothing c b v (script_scan_start j) o.scanned i (path-mode v (script_scan_start j) Nothing o.scanned) taken;
+      opens = step-opens (script_step (script_may_end v) element.Script Nothing c b) c element.Script v;
+    })))
+    (λ n k r z taken. at-one s (InScriptElement n h) c b Closed r z (record {
+      outs = script-out-same script-paths-write element.Script h c b v n k i (path-mode v n h k) taken;
+      opens = opens;
+    }))
+
+language-writes : (e : Element) (v : ValueState) (h : Pending) (c : Class) (b : ℕ) → class_of b ≡ c → WritesAt (InContent e (InLanguage v) h) c b
+language-writes element.Style (OfStyle s) h c b k = style-element-writes s h (style_scanned s) c b refl
+language-writes element.Script (OfScript v) h c b k = script-writes-in v h c b k
+language-writes e v h c b k = tt
 
 writes : (s : LexState ValueState) (c : Class) (b : ℕ) → class_of b ≡ c → WritesAt s c b
 writes (Text a) c b k = λ r e taken. at-one (Text a) (At place.Text) c b a r e (text-writes a c b)
@@ -653,8 +728,7 @@ writes (AfterAttributeValue t) c b k = λ r e taken. at-one (AfterAttributeValue
 writes (SelfClosingStartTag t) c b k = λ r e taken. at-one (SelfClosingStartTag t) _ c b Closed r e (record { outs = refl; opens = before-closed c b t })
 writes (InContent x (Characters a) h) c b k = content-writes x a h c b
 writes (InContent x Bytes h) c b k = block-writes x h c b
-writes (InContent x (InLanguage v) h) c b k = language-writes x v h c b
-writes Unread c b k = tt
+writes (InContent x (InLanguage v) h) c b k = language-writes x v h c b k
 
 -- likewise, and at the end of a text
 abbrev CutAt : LexState ValueState → Type 0
@@ -683,9 +757,11 @@ content-cuts element.Textarea (Open f bytes) (PendingName letters) = λ r e take
 content-cuts element.Title a LessAtCut = tt
 content-cuts element.Title a PendingBang = tt
 content-cuts element.Title a PendingBangDash = tt
+content-cuts element.Title a (PendingOpening letters) = tt
 content-cuts element.Textarea a LessAtCut = tt
 content-cuts element.Textarea a PendingBang = tt
 content-cuts element.Textarea a PendingBangDash = tt
+content-cuts element.Textarea a (PendingOpening letters) = tt
 content-cuts element.Other a h = no-cut element.Other a h (no-scan h).0
 content-cuts element.Style a h = no-cut element.Style a h (no-scan h).1
 content-cuts element.Script a h = no-cut element.Script a h (no-scan h).2
@@ -704,6 +780,8 @@ block-cuts e LessAtCut = tt
 block-cuts e (PendingName letters) = tt
 block-cuts e PendingBang = tt
 block-cuts e PendingBangDash = tt
+block-cuts element.DataBlock (PendingOpening letters) = tt
+block-cuts e (PendingOpening letters) = tt
 
 style-cuts-in : (s : Style Url) (n : StyleScan) (h : Pending) → IsStyleScan s n → WhereScanned (element_scanned h n) (CutFrom (InContent element.Style (InLanguage (OfStyle s)) h))
 style-cuts-in s n Nothing i = λ r e taken. paths-write.cuts (OfStyle s) n i ∙ sym (element-cut n r)
@@ -714,13 +792,23 @@ style-cuts-in s n (PendingName letters) i = λ r e taken.
 style-cuts-in s n LessAtCut i = tt
 style-cuts-in s n PendingBang i = tt
 style-cuts-in s n PendingBangDash i = tt
+style-cuts-in s n (PendingOpening letters) i = tt
 
 style-element-cuts : (s : Style Url) (h : Pending) (o : Option StyleScan) → style_scanned s ≡ o → WhereScanned (style_element_scanned h o) (CutFrom (InContent element.Style (InLanguage (OfStyle s)) h))
 style-element-cuts s h None e = tt
 style-element-cuts s h (Some n) e = style-cuts-in s n h (exact-on-one-style.has_scan s n e)
 
+script-cuts-in : (v : ScriptState) (h : Pending) → WhereScanned (script_element_scanned h v) (CutFrom (InContent element.Script (InLanguage (OfScript v)) h))
+script-cuts-in v h =
+    where-script-element h v (CutFrom (InContent element.Script (InLanguage (OfScript v)) h))
+    (λ j e k. let o = one-stand v j (ap (option_map body.Js) k) in
+    subst (λ (g : Pending). CutFrom (InContent element.Script (InLanguage (OfScript v)) g) (At (place.Script j))) (sym e)
+    (λ r z taken. nothing-cut v ∙ path-ends v (script_scan_start j) o.scanned))
+    (λ n k r z taken. script-cut-same script-paths-write h v n k (path-mode v n h k) taken)
+
 language-cuts : (e : Element) (v : ValueState) (h : Pending) → CutAt (InContent e (InLanguage v) h)
 language-cuts element.Style (OfStyle s) h = style-element-cuts s h (style_scanned s) refl
+language-cuts element.Script (OfScript v) h = script-cuts-in v h
 language-cuts e v h = tt
 
 url-cuts : (v : ValuePlace) (t : Triple) (z r : Reference) → text_escaped r ≡ scan_cut_out (url_scan v t z) r
@@ -814,7 +902,6 @@ cuts (SelfClosingStartTag t) = λ r e taken. by-one (At place.Text) Closed r _ e
 cuts (InContent x (Characters a) h) = content-cuts x a h
 cuts (InContent x Bytes h) = block-cuts x h
 cuts (InContent x (InLanguage v) h) = language-cuts x v h
-cuts Unread = tt
 
 -- A path that is at a place has no reference open.
 no-place : (p : Place) → None ≡ Some p → ⊥
@@ -834,12 +921,14 @@ closed-at (InContent x (Characters Closed) (PendingName letters)) p e = refl
 closed-at (InContent x (Characters Closed) LessAtCut) p e = refl
 closed-at (InContent x (Characters Closed) PendingBang) p e = refl
 closed-at (InContent x (Characters Closed) PendingBangDash) p e = refl
+closed-at (InContent x (Characters Closed) (PendingOpening letters)) p e = refl
 closed-at (InContent x (Characters (Open f bytes)) Nothing) p e = absurd (no-place p e)
 closed-at (InContent x (Characters (Open f bytes)) PendingLess) p e = absurd (no-place p e)
 closed-at (InContent x (Characters (Open f bytes)) (PendingName letters)) p e = absurd (no-place p e)
 closed-at (InContent x (Characters (Open f bytes)) LessAtCut) p e = absurd (no-place p e)
 closed-at (InContent x (Characters (Open f bytes)) PendingBang) p e = absurd (no-place p e)
 closed-at (InContent x (Characters (Open f bytes)) PendingBangDash) p e = absurd (no-place p e)
+closed-at (InContent x (Characters (Open f bytes)) (PendingOpening letters)) p e = absurd (no-place p e)
 closed-at s p e = refl
 
 -- Whole texts.
@@ -860,12 +949,12 @@ same-from (b ∷ bs) k since s f r q e o h =
     (same-from bs (k + 1) later (next languages Template s (class_of b) b) (scan_next f (class_of b) b) (scan_open f (class_of b) b r) q ((agrees-at s f b e).steps n.0) w.opens n.1)
 
 above-from : (bytes : List ℕ) (k : ℕ) (since : TextRead) (f g : Scan) (r : Reference) (q : Place) → ScanValid f → ScanBelow f g → stepped k since bytes g ≡ Ok q → written_from bytes f r ≡ written_from bytes g r
-above-from [] k since f g r q v h e = cut-same f g r h (end-ok k since g q e).cut
+above-from [] k since f g r q v h e = cut-same f g r v h (end-ok k since g q e).cut
 above-from (b ∷ bs) k since f g r q v h e =
     let later = scan_read_behind k since g (class_of b) b in
     let n = step-ok k since b bs g q e in
-    let m = scan-grows f g (class_of b) b v h n.0 in
-    let w = scan-same f g (class_of b) b r h n.0 in
+    let m = scan-grows f g (class_of b) b refl v h n.0 in
+    let w = scan-same f g (class_of b) b r refl v h n.0 in
     ap₂ (λ (x y : List ℕ). x ++ y) w.outs
     (above-from bs (k + 1) later (scan_next f (class_of b) b) (scan_next g (class_of b) b) (scan_open f (class_of b) b r) q (scan-valid f (class_of b) b v m.0) m.1 n.1
     ∙ ap (λ (z : Reference). written_from bs (scan_next g (class_of b) b) z) w.opens)

@@ -1,5 +1,5 @@
--- Small pages with scripts that fill their paths: a value in code, in a string, in a regular expression and in a comment.
-use Rattle.std.proofs.Common.{◌≢◌, ℕ, false, true, codes, List, [], ◌∷◌, refl}
+-- Small pages with scripts that fill their paths: a value in code, in a string, in a regular expression and in a comment of an attribute, and in the element.
+use Rattle.std.proofs.Common.{◌≢◌, ℕ, false, true, codes, List, [], ◌∷◌, refl, ◌++◌}
 use Rattle.js_lexer.specs.Classes.{class_of}
 use Rattle.js_lexer.specs.Events.{RegexpBegins, ScriptByte}
 use Rattle.js_lexer.specs.BackLaws.{in_string, in_regexp}
@@ -8,7 +8,8 @@ use Rattle.js_lexer.specs.States.{no_trail}
 use Rattle.js_lexer.specs.WhiteSpace.{released, held_after}
 use Rattle.page_datum.specs.Data.{truth}
 use Rattle.place_core.specs.page.Classes as html
-use Rattle.place_core.specs.page.Events.{InsideScript, LexEvent, told_in_script}
+use Rattle.place_core.specs.page.Contents.{in_word}
+use Rattle.place_core.specs.page.Events.{InsideScript, LexEvent, Mark, told_in_script}
 use Rattle.place_core.specs.page.Html.{read, start}
 use Rattle.place_core.specs.page.Paths.{Hole, Written, read_path}
 use Rattle.place_core.specs.page.References.{Closed, meaning}
@@ -121,3 +122,29 @@ comment = codes "<a onclick=\"//"
 in_a_comment : FillsAround comment (codes "a") (codes "\">") (codes "<a onclick=\"//\">")
 unfolding html.class_of class_of released held_after meaning lib.Utf8.encode
 in_a_comment = record { ends = refl; events = (_, _, refl, refl, begun comment) }
+
+-- <script>f({{.}})</script> with true: in the element of a script as in a value
+abbrev element_call : List ℕ
+element_call = codes "<script>f("
+
+in_element_code : FillsAround element_call (codes "true") (codes ")</script>") (codes "<script>f( true )</script>")
+unfolding html.class_of class_of released held_after meaning in_word lib.Utf8.encode
+in_element_code =
+    let t = page_events element_call in
+    let v = filling ScriptCodeSite (codes "true") in
+    let run = told_in_script (literal_events (truth true) []) [] in
+    let fits : IsLiteralRun (codes "true") run = record { datum = truth true; prints = refl; emitted = refl } in
+    let at = (read_path languages (Written element_call ∷ Hole ∷ []) start).at in
+    let held = fills-mark v [] run t t fits (begun element_call) in
+    record { ends = refl; events = fills-node (v ∷ []) (codes ")</script>") at (Mark ∷ t) (run ++ t) (_, refl, refl) held }
+
+-- <script>//{{.}}</script>: of the comment nothing is written, and no value has a filling
+abbrev element_comment : List ℕ
+element_comment = codes "<script>//"
+
+in_element_comment : FillsAround element_comment (codes "a") (codes "</script>") (codes "<script></script>")
+unfolding html.class_of class_of released held_after meaning in_word lib.Utf8.encode
+in_element_comment =
+    let at = (read_path languages (Written element_comment ∷ Hole ∷ []) start).at in
+    let t = page_events (codes "<script>") in
+    record { ends = refl; events = fills-node [] (codes "</script>") at t t (_, refl, refl) (begun (codes "<script>")) }

@@ -1,10 +1,10 @@
 -- What the chain of a hole in a script promises, by the place in the script: the characters that its bytes are read as are plain in each state of
 -- a page that is alike to the path's.
-use Rattle.std.proofs.Common.{◌≡◌, ◌≢◌, ◌==◌, ℕ, suc, pos, negsuc, Bool, true, false, ◌&&◌, List, [], ◌∷◌, Option, Some, None, if◌then◌else◌, inl, inr, refl, sym, ap, ◌∙◌, subst}
+use Rattle.std.proofs.Common.{◌≡◌, ◌≢◌, ◌==◌, ℕ, suc, pos, negsuc, Bool, true, false, ◌&&◌, List, [], ◌∷◌, Option, Some, None, if◌then◌else◌, inl, inr, refl, sym, ap, ◌∙◌, subst, zero}
 use Rattle.std.proofs.lemmas.Bool.{and_parts, eqb-true}
 use Rattle.std.specs.Fmt.{decimal}
 use Rattle.html_step.specs.Holes.{both_of, last_of}
-use Rattle.js_lexer.specs.Alike.{ScriptsAlike}
+use Rattle.js_lexer.specs.Alike.{ScriptsAlike, is_open_brace}
 use Rattle.js_lexer.specs.BackLaws.{TakesData, behind_slash, in_code, in_regexp, in_string}
 use Rattle.js_lexer.specs.Classes.{class_of}
 use Rattle.js_lexer.specs.Events.{ScriptEvent, NumberBegins, ScriptByte, script_bytes}
@@ -15,7 +15,7 @@ use Rattle.js_lexer.specs.Refusals.{within_escape}
 use Rattle.js_lexer.specs.Sanitizers.{json_text}
 use Rattle.js_lexer.specs.ScriptBack.{IsBackInScriptCode, IsBackInScriptRegexp, IsBackInScriptString}
 use Rattle.js_lexer.specs.Spots.{Spot, CodeSpot, StringSpot, RegexpSpot, LineSpot, BlockSpot, script_spot, spot_at, tail_of, unless_within}
-use Rattle.js_lexer.specs.States.{ScriptEscape, NoEscape, AfterBackslash, AfterX, AfterX3, AfterCarriageReturn, At, Code, Word, Number, Pluses, Minuses, Slash, LineComment, BlockComment, InString, InRegexp, InTemplate, TooDeep, ScriptState, Trail, no_trail, script_start}
+use Rattle.js_lexer.specs.States.{PartLines, ScriptEscape, NoEscape, AfterBackslash, AfterX, AfterX3, AfterCarriageReturn, At, Code, Word, Number, Pluses, Minuses, Slash, LineComment, BlockComment, InString, InRegexp, InTemplate, TooDeep, ScriptState, Trail, no_trail, script_start}
 use Rattle.js_lexer.specs.Trails.{is_empty}
 use Rattle.js_lexer.specs.WhiteSpace.{held_after, released}
 use Rattle.js_lexer.specs.declared.sense.Sense.{Sense}
@@ -51,9 +51,13 @@ pub record IsSettled (s : ScriptState) : Type 0 where
   pub whole : IsBetweenEscapes s.trail
 
 -- So is a page's that is alike.
-both-whole : (s w : ScriptState) → w.trail.escape ≡ s.trail.escape → w.trail.brace ≡ s.trail.brace → IsBetweenEscapes s.trail
-    → IsBetweenEscapes w.trail
-both-whole s w e f h = record { none = e ∙ h.none; closed = f ∙ h.closed }
+closed-is : (n : ℕ) → is_open_brace n ≡ false → n ≡ 0
+closed-is zero e = refl
+closed-is (suc n) e = absurd (true-false e)
+
+both-whole : (s w : ScriptState) → w.trail.escape ≡ s.trail.escape → is_open_brace w.trail.brace ≡ is_open_brace s.trail.brace
+    → IsBetweenEscapes s.trail → IsBetweenEscapes w.trail
+both-whole s w e f h = record { none = e ∙ h.none; closed = closed-is w.trail.brace (f ∙ ap is_open_brace h.closed) }
 
 page-settled : (s w : ScriptState) → IsSettled s → ScriptsAlike s w → IsSettled w
 page-settled s w h (i, inl a) = record {
@@ -68,12 +72,12 @@ page-settled s w h (i, inr a) = record {
 }
 
 -- Where in a script: in code, in this string, in a regular expression, right behind its slash, and in a comment.
-abbrev IsComment : At → Type 0
+abbrev pub IsComment : At → Type 0
 IsComment (LineComment s) = Unit {0}
 IsComment (BlockComment s star) = Unit {0}
 IsComment a = ⊥
 
-abbrev Takes : Spot → At → Type 0
+abbrev pub Takes : Spot → At → Type 0
 Takes (CodeSpot s x) a = TakesData a
 Takes (StringSpot q) a = a ≡ InString q NoEscape
 Takes (RegexpSpot true) a = a ≡ Slash sense.Re
@@ -198,7 +202,7 @@ same-there (BlockSpot s star) a d e h = comment-back d (subst IsComment (sym e) 
 in-comment : (a : At) (r : Sense) (star : Bool) → as_page a ≡ BlockComment r star → IsComment a
 in-comment a r star e = comment-back a (subst IsComment (sym e) tt)
 
-no-code-comment : (a : At) → TakesData a → IsComment a → ⊥
+pub no-code-comment : (a : At) → TakesData a → IsComment a → ⊥
 no-code-comment (LineComment s) h k = h
 no-code-comment (BlockComment s star) h k = h
 no-code-comment (Code s) h k = k
@@ -236,36 +240,37 @@ settled-plain bs w h p =
     subst (λ (fs : List ℕ). IsPlainInScript bs (record { literals = fs; at = w.at; held = w.held; trail = w.trail })) (sym h.literals)
     (subst (λ (ks : List ℕ). IsPlainInScript bs (record { literals = []; at = w.at; held = ks; trail = w.trail })) (sym h.held) p)
 
-at-all : (p : Spot) (s : ScriptState) (bs : List ℕ) → IsSettled s → Takes p s.at → PlainWhere p bs → PlainAtAll s bs
+pub at-all : (p : Spot) (s : ScriptState) (bs : List ℕ) → IsSettled s → Takes p s.at → PlainWhere p bs → PlainAtAll s bs
 at-all p s bs i h f w a =
     let page = page-settled s w i a in
     settled-plain bs w page (f w.at w.trail (page-there p s w a h) page.whole)
 
 -- by the promises of the sanitizers
-string-where : (q : Bool) (bs : List ℕ) → ((t : Trail) → IsBetweenEscapes t → IsPlainInScript bs (in_string q t)) → PlainWhere (StringSpot q) bs
+pub string-where : (q : Bool) (bs : List ℕ) → ((t : Trail) → IsBetweenEscapes t → IsPlainInScript bs (in_string q t)) → PlainWhere (StringSpot q) bs
 string-where q bs f a t e h = subst (λ (x : At). IsPlainInScript bs (in_code x t)) (sym e) (f t h)
 
-regexp-where : (bs : List ℕ) → ((t : Trail) → IsBetweenEscapes t → IsPlainInScript bs (in_regexp t)) → PlainWhere (RegexpSpot false) bs
+pub regexp-where : (bs : List ℕ) → ((t : Trail) → IsBetweenEscapes t → IsPlainInScript bs (in_regexp t)) → PlainWhere (RegexpSpot false) bs
 regexp-where bs f a t e h = subst (λ (x : At). IsPlainInScript bs (in_code x t)) (sym e) (f t h)
 
-slash-where : (bs : List ℕ) → ((t : Trail) → IsBetweenEscapes t → IsPlainInScript bs (behind_slash t)) → PlainWhere (RegexpSpot true) bs
+pub slash-where : (bs : List ℕ) → ((t : Trail) → IsBetweenEscapes t → IsPlainInScript bs (behind_slash t)) → PlainWhere (RegexpSpot true) bs
 slash-where bs f a t e h = subst (λ (x : At). IsPlainInScript bs (in_code x t)) (sym e) (f t h)
 
 -- The failsafe of a value without quotes is plain in a string and in a comment, and no bytes are plain in a comment.
-abbrev between_escapes : Bool → List ℕ → ℕ → ℕ → Trail
-between_escapes f m k l = record { fresh = f; markup = m; escape = []; brace = 0; bracket = k; literal = l }
+abbrev between_escapes : Bool → List ℕ → ℕ → ℕ → PartLines → Trail
+between_escapes f m k l p = record { fresh = f; markup = m; escape = []; brace = 0; bracket = k; literal = l; lines = p }
 
-between : (P : Trail → Type 0) → ((f : Bool) (m : List ℕ) (k l : ℕ) → P (between_escapes f m k l)) → (t : Trail) → IsBetweenEscapes t → P t
+abbrev trail_with : Trail → List ℕ → ℕ → Trail
+trail_with t e n = record { fresh = t.fresh; markup = t.markup; escape = e; brace = n; bracket = t.bracket; literal = t.literal; lines = t.lines }
+
+between : (P : Trail → Type 0) → ((f : Bool) (m : List ℕ) (k l : ℕ) (p : PartLines) → P (between_escapes f m k l p)) → (t : Trail) → IsBetweenEscapes t → P t
 between P h t is =
-    subst (λ (e : List ℕ). P (record { fresh = t.fresh; markup = t.markup; escape = e; brace = t.brace; bracket = t.bracket; literal = t.literal }))
-    (sym is.none)
-    (subst (λ (n : ℕ). P (record { fresh = t.fresh; markup = t.markup; escape = []; brace = n; bracket = t.bracket; literal = t.literal }))
-    (sym is.closed)
-    (h t.fresh t.markup t.bracket t.literal))
+    subst (λ (e : List ℕ). P (trail_with t e t.brace)) (sym is.none)
+    (subst (λ (n : ℕ). P (trail_with t [] n)) (sym is.closed)
+    (h t.fresh t.markup t.bracket t.literal t.lines))
 
-string-failsafe : (q : Bool) (f : Bool) (m : List ℕ) (k l : ℕ) → IsPlainInScript failsafe (in_string q (between_escapes f m k l))
+string-failsafe : (q : Bool) (f : Bool) (m : List ℕ) (k l : ℕ) (p : PartLines) → IsPlainInScript failsafe (in_string q (between_escapes f m k l p))
 unfolding class_of released held_after
-string-failsafe true f m k l = record {
+string-failsafe true f m k l p = record {
   apart = refl;
   leads = record {
     at = refl;
@@ -279,7 +284,7 @@ string-failsafe true f m k l = record {
   tells = refl;
   written = tt;
 }
-string-failsafe false f m k l = record {
+string-failsafe false f m k l p = record {
   apart = refl;
   leads = record {
     at = refl;
@@ -294,9 +299,9 @@ string-failsafe false f m k l = record {
   written = tt;
 }
 
-line-failsafe : (s : Sense) (f : Bool) (m : List ℕ) (k l : ℕ) → IsPlainInScript failsafe (in_code (LineComment s) (between_escapes f m k l))
+line-failsafe : (s : Sense) (f : Bool) (m : List ℕ) (k l : ℕ) (p : PartLines) → IsPlainInScript failsafe (in_code (LineComment s) (between_escapes f m k l p))
 unfolding class_of released held_after
-line-failsafe s f m k l = record {
+line-failsafe s f m k l p = record {
   apart = refl;
   leads = record {
     at = refl;
@@ -311,10 +316,10 @@ line-failsafe s f m k l = record {
   written = inr refl;
 }
 
-block-failsafe : (s : Sense) (star f : Bool) (m : List ℕ) (k l : ℕ)
-    → IsPlainInScript failsafe (in_code (BlockComment s star) (between_escapes f m k l))
+block-failsafe : (s : Sense) (star f : Bool) (m : List ℕ) (k l : ℕ) (p : PartLines)
+    → IsPlainInScript failsafe (in_code (BlockComment s star) (between_escapes f m k l p))
 unfolding class_of released held_after
-block-failsafe s true f m k l = record {
+block-failsafe s true f m k l p = record {
   apart = refl;
   leads = record {
     at = inr refl;
@@ -328,7 +333,7 @@ block-failsafe s true f m k l = record {
   tells = refl;
   written = inr refl;
 }
-block-failsafe s false f m k l = record {
+block-failsafe s false f m k l p = record {
   apart = refl;
   leads = record {
     at = inr refl;
@@ -343,8 +348,8 @@ block-failsafe s false f m k l = record {
   written = inr refl;
 }
 
-line-none : (s : Sense) (f : Bool) (m : List ℕ) (k l : ℕ) → IsPlainInScript [] (in_code (LineComment s) (between_escapes f m k l))
-line-none s f m k l = record {
+line-none : (s : Sense) (f : Bool) (m : List ℕ) (k l : ℕ) (p : PartLines) → IsPlainInScript [] (in_code (LineComment s) (between_escapes f m k l p))
+line-none s f m k l p = record {
   apart = refl;
   leads = record {
     at = refl;
@@ -359,8 +364,8 @@ line-none s f m k l = record {
   written = inl refl;
 }
 
-block-none : (s : Sense) (star f : Bool) (m : List ℕ) (k l : ℕ) → IsPlainInScript [] (in_code (BlockComment s star) (between_escapes f m k l))
-block-none s star f m k l = record {
+block-none : (s : Sense) (star f : Bool) (m : List ℕ) (k l : ℕ) (p : PartLines) → IsPlainInScript [] (in_code (BlockComment s star) (between_escapes f m k l p))
+block-none s star f m k l p = record {
   apart = refl;
   leads = record {
     at = inl refl;
@@ -511,7 +516,7 @@ trail-whole t e =
 some-spot : (p r : Spot) → Some p ≡ Some r → p ≡ r
 some-spot p r e = cc
 
-no-spot : (r : Spot) → None ≡ Some r → ⊥
+pub no-spot : (r : Spot) → None ≡ Some r → ⊥
 no-spot r e = cc
 
 unless-spot : (c : Bool) (p r : Spot) → unless_within c p ≡ Some r → p ≡ r
@@ -553,10 +558,9 @@ if-spot : (c : Bool) (o : Option Spot) (r : Spot) → (if c then o else None) �
 if-spot true o r e = (refl, e)
 if-spot false o r e = absurd (no-spot r e)
 
-pub script-hole : (s : ScriptState) (r : Spot) → script_may_begin_text s ≡ true → script_spot s ≡ Some r
-    → (q : Quoting) (datum : Data) (bytes : List ℕ)
-    → IsBackBy (chain_at r q) datum bytes → (leaves_out (chain_at r q) ≡ false) × IsScriptHole q s bytes
-script-hole s r b e q datum bytes k =
+pub script-takes : (s : ScriptState) (r : Spot) → script_may_begin_text s ≡ true → script_spot s ≡ Some r
+    → IsSettled s × (may_begin_text_at s.at s.trail.markup ≡ true) × Takes r s.at
+script-takes s r b e =
     let begins = and_parts (is_trail_of_cut s.trail) _ b in
     let spot = if-spot (is_empty s.literals && is_empty s.held) (spot_at s.at s.trail) r e in
     let empty = and_parts (is_empty s.literals) _ spot.0 in
@@ -565,10 +569,15 @@ script-hole s r b e q datum bytes k =
       held = empty-is s.held empty.1;
       whole = trail-whole s.trail begins.0;
     } in
-    spot-hole r s settled (spot-takes s.at s.trail r begins.1 spot.1) q datum bytes k
+    (settled, begins.1, spot-takes s.at s.trail r begins.1 spot.1)
+
+pub script-hole : (s : ScriptState) (r : Spot) → script_may_begin_text s ≡ true → script_spot s ≡ Some r
+    → (q : Quoting) (datum : Data) (bytes : List ℕ)
+    → IsBackBy (chain_at r q) datum bytes → (leaves_out (chain_at r q) ≡ false) × IsScriptHole q s bytes
+script-hole s r b e q datum bytes k = (let own = script-takes s r b e in spot-hole r s own.0 own.2 q datum bytes k)
 
 -- In the page these bytes are plain.
-script-leads : (w : ScriptState) (bs : List ℕ) → IsPlainInScript bs w
+pub script-leads : (w : ScriptState) (bs : List ℕ) → IsPlainInScript bs w
     → LeadsPlainInScript (script_settled w) bs (read_on bs (script_reading (script_settled w) [])).state
 script-leads w bs p = record { leads = p.leads; tells = p.tells; written = p.written }
 

@@ -123,14 +123,14 @@ told-behind a w r bs u p i s =
     ∙ told-over (run_told before bs) (script_emits_settled w []) u
 
 -- What characters have to show in the place of a path, of a page that stands there.
-record IsFilledScript (more : List Filling → List Filling) (bs : List ℕ) (w : ScriptState) : Type 0 where
+pub record IsFilledScript (more : List Filling → List Filling) (bs : List ℕ) (w : ScriptState) : Type 0 where
   pub there : At
   pub same : IsSame (model there) w
   pub apart : IsApart (model there) bs
   pub fills : (vs : List Filling) (t u : List LexEvent) → Fills t vs u
       → Fills (mark_if (script_has_mark w) t) (more vs) (told_in_script (run_told (script_settled (model there)) bs) u)
 
-script-goes : (more : List Filling → List Filling) (bs : List ℕ) (w r : ScriptState) → IsFilledScript more bs w
+pub script-goes : (more : List Filling → List Filling) (bs : List ℕ) (w r : ScriptState) → IsFilledScript more bs w
     → (vs : List Filling) (t u : List LexEvent) → IsSame w r → Fills t vs u
     → IsSame (script_fed (script_settled w) bs) (script_fed r bs)
     × Fills (mark_if (script_has_mark w) (told_in_script (script_emits_settled w []) t)) (more vs) (script_told r bs u)
@@ -159,7 +159,7 @@ script-led q tag more bytes bs w (OfScript r) reads k vs t d e b f =
     (ap (λ (s : LexState ValueState). read Page bytes (config s d.emitted)) e ∙ reads tag r d.emitted)
     (OfScript (script_fed r bs), refl, (g.0, g.1))
 
-abbrev AreFilledAt : Quoting → ScriptState → (text characters : List ℕ) → Type 0
+abbrev pub AreFilledAt : Quoting → ScriptState → (text characters : List ℕ) → Type 0
 AreFilledAt q s text bs =
     (w : ScriptState) → ScriptsAlike s w → IsFilledScript (λ vs. value_fillings (ValueOf (OfScript s)) q text vs) bs w
 
@@ -250,7 +250,7 @@ code-fits a h datum chars k = record {
   emitted = ap (λ (es : List ScriptEvent). told_in_script es []) (k.told a no_trail h between);
 }
 
-code-filled : (a : At) (t : Trail) → TakesData a → script_has_mark_at a ≡ true → (q : Quoting) → SiteFills a q ScriptCodeSite
+pub code-filled : (a : At) (t : Trail) → TakesData a → script_has_mark_at a ≡ true → (q : Quoting) → SiteFills a q ScriptCodeSite
     → (datum : Data) (chars : List ℕ) → IsBackInScriptCode datum chars
     → AreFilledAt q (in_code a t) (printed datum) chars
 code-filled a t h m q own datum chars k =
@@ -305,20 +305,25 @@ either Unquoted (b ∷ bs) P p f = p
 run-is : (s : ScriptState) (bs : List ℕ) → told_in_script (run_told s bs) [] ≡ script_run s bs
 run-is s bs = sym (script-read-told s bs [] [])
 
+pub string-filled : (j : Bool) (t : Trail) (q : Quoting) → SiteFills (InString j NoEscape) q (ScriptStringSite q j) → (text chars : List ℕ)
+    → IsBackInScriptString text chars → AreFilledAt q (in_string j t) text (url_bytes q chars)
+string-filled j t q own text chars k =
+    let bs = url_bytes q chars in
+    let plain = either q chars (λ cs. IsPlainInScript cs (in_string j no_trail)) (k.plain j no_trail between) (string-failsafe j) in
+    let fits : IsScriptStringRun q j text (told_in_script (run_told (in_string j no_trail) bs) []) = record {
+      bytes = chars;
+      emitted = run-is (in_string j no_trail) bs;
+      plain = plain;
+      reads = k.reads;
+    } in
+    site-fills (InString j NoEscape) t q (ScriptStringSite q j) own refl text bs plain.apart (λ before. fits)
+
 pub string-leads : (j : Bool) (t : Trail) (q : Quoting) → SiteFills (InString j NoEscape) q (ScriptStringSite q j) → (tag : Tag) (text bytes : List ℕ)
     → IsBackInLanguage (IsBackInScriptString text) (last_of (quotes_at q)) bytes
     → Leads (in_script q tag (in_string j t)) text bytes
 string-leads j t q own tag text bytes k =
-    let bs = url_bytes q k.characters in
-    let plain = either q k.characters (λ cs. IsPlainInScript cs (in_string j no_trail)) (k.there.plain j no_trail between) (string-failsafe j) in
-    let fits : IsScriptStringRun q j text (told_in_script (run_told (in_string j no_trail) bs) []) = record {
-      bytes = k.characters;
-      emitted = run-is (in_string j no_trail) bs;
-      plain = plain;
-      reads = k.there.reads;
-    } in
-    script-leads q tag (in_string j t) text bytes bs (read-in-script q k.characters bytes k.as_they_are k.written)
-    (site-fills (InString j NoEscape) t q (ScriptStringSite q j) own refl text bs plain.apart (λ before. fits))
+    script-leads q tag (in_string j t) text bytes (url_bytes q k.characters) (read-in-script q k.characters bytes k.as_they_are k.written)
+    (string-filled j t q own text k.characters k.there)
 
 -- in a regular expression, and behind the slash that begins it
 abbrev pub IsInRegexp : At → Type 0
@@ -333,6 +338,12 @@ regexp-fits a e text chars k = record {
   reads = k.reads;
 }
 
+pub regexp-filled : (a : At) (t : Trail) → IsInRegexp a → script_has_mark_at a ≡ true → (q : Quoting) → SiteFills a q ScriptRegexpSite
+    → ((text chars : List ℕ) → IsBackInScriptRegexp text chars → IsPlainInScript chars (model a))
+    → (text chars : List ℕ) → IsBackInScriptRegexp text chars → AreFilledAt q (in_code a t) text chars
+regexp-filled a t e m q own plain text chars k =
+    site-fills a t q ScriptRegexpSite own m text chars (plain text chars k).apart (λ before. regexp-fits a e text chars k)
+
 pub regexp-leads : (a : At) (t : Trail) → IsInRegexp a → script_has_mark_at a ≡ true → (q : Quoting) → SiteFills a q ScriptRegexpSite
     → ((text chars : List ℕ) → IsBackInScriptRegexp text chars → IsPlainInScript chars (model a))
     → (tag : Tag) (text bytes : List ℕ) → IsBackInLanguage (IsBackInScriptRegexp text) (last_of (quotes_at q)) bytes
@@ -341,8 +352,7 @@ regexp-leads a t e m q own plain tag text bytes k =
     script-leads q tag (in_code a t) text bytes k.characters
     (subst (AreReadInScript q bytes) (some-bytes q k.characters (k.there.plain no_trail between).written)
     (read-in-script q k.characters bytes k.as_they_are k.written))
-    (site-fills a t q ScriptRegexpSite own m text k.characters (plain text k.characters k.there).apart
-    (λ before. regexp-fits a e text k.characters k.there))
+    (regexp-filled a t e m q own plain text k.characters k.there)
 
 pub plain-within : (text chars : List ℕ) → IsBackInScriptRegexp text chars → IsPlainInScript chars (model (InRegexp false NoEscape))
 plain-within text chars k = k.plain no_trail between

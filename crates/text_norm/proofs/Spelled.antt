@@ -74,6 +74,7 @@ is_read text k (scan.InCommentEnd s) a = refl
 is_read text k (scan.InUrl v t r) a = refl
 is_read text k (scan.InStyle v s r) a = refl
 is_read text k (scan.InScript v n r) a = refl
+is_read text k (scan.InScriptElement n h) a = refl
 is_read text k (scan.AfterContentLess element.DataBlock) a = refl
 is_read text k (scan.AfterContentLess e) a = refl
 is_read text k (scan.InContentName element.DataBlock from) a = refl

@@ -1,12 +1,12 @@
 -- Two readings of the same bytes whose states are the same but for the state of a value's language, which is related.
-use Rattle.std.proofs.Common.{◌≡◌, ℕ, Bool, true, false, codes, List, [], ◌∷◌, ◌++◌, refl, sym, ap, ◌∙◌, subst}
+use Rattle.std.proofs.Common.{◌≡◌, ℕ, Bool, true, false, codes, List, [], ◌∷◌, ◌++◌, refl, sym, ap, ◌∙◌, subst, if◌then◌else◌}
 use Rattle.place_core.specs.page.Classes.{Class, White, ExclamationMark, QuotationMark, Apostrophe, HyphenMinus, Solidus, LessThan, EqualsSign, GreaterThan, QuestionMark, Letter}
 use Rattle.place_core.specs.page.Comments.{Declaration, OpensComment, OpensDoctype, Undecided, OpensNothing, closes_comment, comment_ended, declared_by, next_in_bogus, next_in_comment, next_in_doctype}
-use Rattle.place_core.specs.page.Contents.{content_after, is_name_of, may_be_name_of, pending_bytes, next_bang, next_end_name, next_in_content, next_less, next_loose}
+use Rattle.place_core.specs.page.Contents.{content_after, is_name_of, may_be_name_of, pending_bytes, next_bang, next_end_name, next_in_content, next_less, next_loose, ScriptStep, Reads, EndsContent, script_step, behind_end_tag, ends_here, next_by_step, next_content_in}
 use Rattle.place_core.specs.page.Html.{after_tag, ends_value, next, next_after_name, next_after_value, next_before_name, next_before_value, next_bogus, next_declaration, next_end_tag_open, next_name, next_tag_name, next_tag_open, next_text, next_value}
 use Rattle.place_core.specs.page.Paths.{at_cut}
 use Rattle.place_core.specs.page.References.{Reference, Closed, as_it_stands, next_reference, settled, undone_byte}
-use Rattle.place_core.specs.page.States.{AfterAttributeName, AfterAttributeValue, AttributeName, AttributeValue, BeforeAttributeName, BeforeAttributeValue, BogusComment, Bytes, Characters, CommentState, Content, DeclarationOpen, EndTagOpen, InComment, InContent, InLanguage, InDoctype, LessAtCut, LexMode, LexState, Nothing, Page, Pending, PendingBang, PendingBangDash, PendingLess, PendingName, SelfClosingStartTag, TagName, TagOpen, Template, Text, Unread, WholeAttributeName, WholeTagName}
+use Rattle.place_core.specs.page.States.{AfterAttributeName, AfterAttributeValue, AttributeName, AttributeValue, BeforeAttributeName, BeforeAttributeValue, BogusComment, Bytes, Characters, CommentState, Content, DeclarationOpen, EndTagOpen, InComment, InContent, InLanguage, InDoctype, LessAtCut, LexMode, LexState, Nothing, Page, Pending, PendingBang, PendingBangDash, PendingLess, PendingName, SelfClosingStartTag, TagName, TagOpen, Template, Text, WholeAttributeName, WholeTagName, PendingOpening}
 use Rattle.place_core.specs.page.Tags.{Deciding, Quoting, Tag, Unquoted, Value, ValueLanguage, ValueOf, attribute_value_of, cut_value, element_on, fed_state, tag_of_name, tag_with_value, with_bytes, without_value}
 use Rattle.place_core.specs.page.Words.{kind_of}
 use Rattle.place_core.specs.declared.element.Element.{Element}
@@ -124,25 +124,30 @@ module _ (B : Type 0) where
     in-content-outside (PendingName letters) c b e y n = end-name-outside (may_be_name_of e (letters ++ b ∷ [])) (is_name_of e letters) c b e y letters n
     in-content-outside PendingBang c b e y n = bang-outside c b e y n
     in-content-outside PendingBangDash c b e y n = loose-outside c b e (content_after x y (codes "<!-")) (after-none y (codes "<!-") n)
+    in-content-outside (PendingOpening letters) c b e y n =
+        (let bs = codes "<" ++ letters in loose-outside c b e (content_after x y bs) (after-none y bs n))
 
--- what a relation of the states of a language has to keep: where a value begins, at a byte, and at the end of a node
+-- What a relation of the states of a language has to keep: where a value begins, at a byte, and at the end of a node. Related states are scripts or not
+-- alike, and an end tag may end both or none.
 pub record IsFedAlike (B : Type 0) (x : ValueLanguage B) (Related : B → B → Type 0) : Type 0 where
   pub starts : (k : Kind) → Related (x.start k) (x.start k)
   pub feeds : (v w : B) (b : ℕ) → Related v w → Related (x.feed v b) (x.feed w b)
   pub cuts : (v w : B) → Related v w → Related (x.after_cut v) (x.after_cut w)
+  pub scripts : (v w : B) → Related v w → x.is_script v ≡ x.is_script w
+  pub may_ends : (v w : B) → Related v w → x.may_end v ≡ x.may_end w
 
 module _ (B : Type 0) (x : ValueLanguage B) (Related : B → B → Type 0) (own : IsFedAlike B x Related) where
   pub fed-beside : (bs : List ℕ) (v w : B) → Related v w → Related (fed x v bs) (fed x w bs)
   fed-beside [] v w a = a
   fed-beside (b ∷ bs) v w a = fed-beside bs (x.feed v b) (x.feed w b) (own.feeds v w b a)
 
-  -- a tag that ends leads to a state that is beside itself, as a style begins in it
+  -- a tag that ends leads to a state that is beside itself, as a style or a script begins in it
   pub tag-beside : (t : TagOf) → StandBeside Related (after_tag x t) (after_tag x t)
   tag-beside tag.End = refl
   tag-beside (tag.Start element.Title) = refl
   tag-beside (tag.Start element.Textarea) = refl
   tag-beside (tag.Start element.DataBlock) = refl
-  tag-beside (tag.Start element.Script) = refl
+  tag-beside (tag.Start element.Script) = (x.start kind.Script, refl, own.starts kind.Script)
   tag-beside (tag.Start element.Style) = (x.start kind.Style, refl, own.starts kind.Style)
   tag-beside (tag.Start element.Other) = refl
 
@@ -211,6 +216,37 @@ module _ (B : Type 0) (x : ValueLanguage B) (Related : B → B → Type 0) (own 
   content-beside (PendingName letters) c b e v w a = end-name-content (may_be_name_of e (letters ++ b ∷ [])) (is_name_of e letters) c b e v w letters a
   content-beside PendingBang c b e v w a = bang-content c b e v w a
   content-beside PendingBangDash c b e v w a = loose-content c b e (fed_state x v (codes "<!-")) (fed_state x w (codes "<!-")) (fed-state-beside (codes "<!-") v w a)
+  content-beside (PendingOpening letters) c b e v w a =
+      (let bs = codes "<" ++ letters in loose-content c b e (fed_state x v bs) (fed_state x w bs) (fed-state-beside bs v w a))
+
+  -- in a script, by the step that both make
+  end-tag-beside : (c : Class) → StandBeside Related (behind_end_tag c) (behind_end_tag c)
+  end-tag-beside White = refl
+  end-tag-beside Solidus = refl
+  end-tag-beside _ = refl
+
+  step-beside : (k : ScriptStep) (c : Class) (e : Element) (v w : B) → Related v w → StandBeside Related (next_by_step x k c e v) (next_by_step x k c e w)
+  step-beside (Reads bytes h) c e v w a = (fed_state x w bytes, refl, fed-state-beside bytes v w a)
+  step-beside (EndsContent letters) c e v w a = end-tag-beside c
+
+  either-beside : (script may : Bool) (h : Pending) (c : Class) (b : ℕ) (e : Element) (v w : B) → Related v w
+      → StandBeside Related (if script then next_by_step x (script_step may e h c b) c e v else next_in_content x h c b e (InLanguage v))
+      (if script then next_by_step x (script_step may e h c b) c e w else next_in_content x h c b e (InLanguage w))
+  either-beside true may h c b e v w a = step-beside (script_step may e h c b) c e v w a
+  either-beside false may h c b e v w a = content-beside h c b e v w a
+
+  pub may-end-beside : (m : LexMode) (v w : B) → Related v w → ends_here x m v ≡ ends_here x m w
+  may-end-beside Page v w a = refl
+  may-end-beside Template v w a = own.may_ends v w a
+
+  language-beside : (m : LexMode) (h : Pending) (c : Class) (b : ℕ) (e : Element) (v w : B) → Related v w
+      → StandBeside Related (next_content_in x m h c b e (InLanguage v)) (next_content_in x m h c b e (InLanguage w))
+  language-beside m h c b e v w a =
+      let from = next_content_in x m h c b e (InLanguage v) in
+      let other = next_in_content x h c b e (InLanguage w) in
+      subst (λ (i : Bool). StandBeside Related from (if i then next_by_step x (script_step (ends_here x m w) e h c b) c e w else other)) (own.scripts v w a)
+      (subst (λ (f : Bool). StandBeside Related from (if x.is_script v then next_by_step x (script_step f e h c b) c e w else other)) (may-end-beside m v w a)
+      (either-beside (x.is_script v) (ends_here x m v) h c b e v w a))
 
   no-language-beside : (h : Pending) (c : Class) (b : ℕ) (e : Element) (y : Content B) → NoLanguage y
       → StandBeside Related (next_in_content x h c b e y) (next_in_content x h c b e y)
@@ -286,7 +322,6 @@ module _ (B : Type 0) (x : ValueLanguage B) (Related : B → B → Type 0) (own 
   self-beside m (InContent e (Characters r) h) c b o = no-language-beside h c b e (Characters r) tt
   self-beside m (InContent e Bytes h) c b o = no-language-beside h c b e Bytes tt
   self-beside m (InContent e (InLanguage v) h) c b o = absurd o
-  self-beside m Unread c b o = refl
 
   -- a byte, from one beside the other
   pub next-beside : (m : LexMode) (s z : LexState B) (c : Class) (b : ℕ) → StandBeside Related s z → StandBeside Related (next x m s c b) (next x m z c b)
@@ -294,7 +329,7 @@ module _ (B : Type 0) (x : ValueLanguage B) (Related : B → B → Type 0) (own 
       subst (λ (y : LexState B). StandBeside Related (next x m (AttributeValue q t (ValueOf v) r) c b) (next x m y c b)) (sym a.1)
       (value-beside (ends_value q c) q c b t v a.0 r a.2)
   next-beside m (InContent e (InLanguage v) h) z c b a =
-      subst (λ (y : LexState B). StandBeside Related (next x m (InContent e (InLanguage v) h) c b) (next x m y c b)) (sym a.1) (content-beside h c b e v a.0 a.2)
+      subst (λ (y : LexState B). StandBeside Related (next x m (InContent e (InLanguage v) h) c b) (next x m y c b)) (sym a.1) (language-beside m h c b e v a.0 a.2)
   next-beside m s z c b a = subst (λ (y : LexState B). StandBeside Related (next x m s c b) (next x m y c b)) (sym a) (self-beside m s c b tt)
 
   -- the end of a node

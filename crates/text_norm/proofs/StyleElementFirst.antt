@@ -15,7 +15,7 @@ use Rattle.css_lexer.specs.declared.class.StyleClass.{StyleClass}
 use Rattle.css_lexer.specs.declared.class.StyleClass.TheVariants as class
 use Rattle.place_core.specs.page.Classes.{Class, White, Solidus, LessThan, GreaterThan, Letter, class_of}
 use Rattle.place_core.specs.page.Contents.{is_name_of, may_be_name_of, next_end_name, next_in_content, next_less, next_loose, pending_bytes}
-use Rattle.place_core.specs.page.States.{InLanguage, LessAtCut, LexState, Nothing, Pending, PendingBang, PendingBangDash, PendingLess, PendingName}
+use Rattle.place_core.specs.page.States.{InLanguage, LessAtCut, LexState, Nothing, Pending, PendingBang, PendingBangDash, PendingLess, PendingName, PendingOpening}
 use Rattle.place_core.specs.page.Tags.{OfStyle, ValueState, fed_state, language_feeding, languages}
 use Rattle.place_core.specs.place.Errors.{at_hand, byte_error, loose_byte_error, refusal_from, TextRead}
 use Rattle.place_core.specs.declared.element.Element.{Element}
@@ -132,6 +132,7 @@ begins-less LessAtCut p = ([], refl)
 begins-less (PendingName letters) p = (47 ∷ letters, refl)
 begins-less PendingBang p = (33 ∷ [], refl)
 begins-less PendingBangDash p = (33 ∷ 45 ∷ [], refl)
+begins-less (PendingOpening letters) p = (letters, refl)
 
 less-releases : (solidus less : Bool) (s : Style Url) (h : Pending) (more : List ℕ) → IsPending h → IsSilent solidus less s h → Releases solidus less s (60 ∷ more)
 unfolding style_class
@@ -194,6 +195,7 @@ content-writes solidus less e s (PendingName letters) c b o i =
 content-writes solidus less e s LessAtCut c b o i = absurd o
 content-writes solidus less e s PendingBang c b o i = absurd o
 content-writes solidus less e s PendingBangDash c b o i = absurd o
+content-writes solidus less e s (PendingOpening letters) c b o i = absurd o
 
 -- the end of the node
 cut-begins-behind : (solidus less : Bool) (s : Style Url) (bs : List ℕ) → Releases solidus less s bs

@@ -4,7 +4,7 @@ use Rattle.std.specs.List.{list_any}
 use Rattle.std.specs.Prelude.{⊤}
 use Rattle.css_lexer.specs.Alike.{AreAlikeOutside, StylesAlike, cut_less_than, outside, the_same}
 use Rattle.css_lexer.specs.Events.{StyleEvent}
-use Rattle.css_lexer.specs.Paths.{style_after_hole, style_emits_settled, style_settled}
+use Rattle.css_lexer.specs.Paths.{style_after_hole, style_emits_settled, style_settled, style_behind}
 use Rattle.css_lexer.specs.Plain.{IsPlainInStyle, MayBePlain}
 use Rattle.css_lexer.specs.States.{AfterLessThan, AfterSolidus, BadUrl, Comment, LessThanAtCut, Outside, SolidusAtCut, StarAtCut, Style, Out, InUrl}
 use Rattle.css_lexer.specs.Steps.{StyleReading, feed_style, read_style, style_emits, style_reading}
@@ -15,7 +15,7 @@ use Rattle.place_core.specs.page.Html.{read}
 use Rattle.place_core.specs.page.Paths.{at_hole, mark_in}
 use Rattle.place_core.specs.page.Plain.{IsPlain, IsPlainInContent, begins_with_solidus, is_behind_less}
 use Rattle.place_core.specs.page.Shape.{marked, state_past_hole}
-use Rattle.place_core.specs.page.States.{Config, LessAtCut, Nothing, Page, Pending, PendingBang, PendingBangDash, PendingLess, PendingName, config}
+use Rattle.place_core.specs.page.States.{Config, LessAtCut, Nothing, Page, Pending, PendingBang, PendingBangDash, PendingLess, PendingName, config, PendingOpening}
 use Rattle.place_core.specs.page.Tags.{OfKind, OfStyle, OfUrl, StatesAlike, ValueState, emits_fed, fed_state, languages, mark_if, OfScript}
 use Rattle.place_core.specs.declared.element.Element.{Element}
 use Rattle.text_norm.proofs.LanguagesKeep.{languages-keep}
@@ -39,7 +39,7 @@ both-false false false e = (refl, refl)
 both-false false true e = absurd (true≢false e)
 both-false true q e = absurd (true≢false e)
 
-less-or-not : (b : ℕ) (c : Class) → class_of b ≡ c → is_less_than b ≡ false → is_less c ≡ false
+pub less-or-not : (b : ℕ) (c : Class) → class_of b ≡ c → is_less_than b ≡ false → is_less c ≡ false
 less-or-not b LessThan k n = absurd (true≢false (sym (ap is_less_than (html-less b k)) ∙ n))
 less-or-not b c k n = refl
 
@@ -52,7 +52,7 @@ pub apart-read : (e : Element) (bs : List ℕ) (s : Style Url) (es : List (Style
 apart-read e [] s es u n = refl
 apart-read e (b ∷ bs) s es u n =
     let m = both-false (is_less_than b) (list_any is_less_than bs) n in
-    ap (read Page bs) (loose-read e (OfStyle s) (class_of b) b (told_in_style es u) refl (less-or-not b (class_of b) refl m.0)
+    ap (read Page bs) (loose-read e s (class_of b) b (told_in_style es u) refl (less-or-not b (class_of b) refl m.0)
     ∙ ap (element_at e (OfStyle (feed_style urls s b)) Nothing) (style-byte-told s b es u))
     ∙ apart-read e bs (feed_style urls s b) (style_emits urls s b es) u m.1
 
@@ -97,6 +97,7 @@ hole-releases e s w LessAtCut b bs h a g = absurd h
 hole-releases e s w (PendingName letters) b bs h a g = absurd h
 hole-releases e s w PendingBang b bs h a g = absurd h
 hole-releases e s w PendingBangDash b bs h a g = absurd h
+hole-releases e s w (PendingOpening letters) b bs h a g = absurd h
 
 -- They are plain in the page.
 settled-allowed : (w : Style Url) (bs : List ℕ) → MayBePlain urls bs w → MayBePlain urls bs (style_settled w)
@@ -132,48 +133,52 @@ settled-same : (e : Element) (w : Style Url) (b : ℕ) (bs : List ℕ) (u : List
 settled-same e w b bs u p = ap (λ (z : StyleReading Url UrlEvent). style_at e z u) p.apart
 
 -- the page's state with what is pending read
-pub record IsReadTo (there : ValueState) (held : Pending) (w : Style Url) : Type 0 where
-  pub is : behind there held ≡ OfStyle w
+pub record IsReadTo (there : Style Url) (held : Pending) (w : Style Url) : Type 0 where
+  pub is : behind (OfStyle there) held ≡ OfStyle w
 
-pub released-read : (e : Element) (w : Style Url) (there : ValueState) (held : Pending) (u : List LexEvent) (b : ℕ) (bs : List ℕ) → IsReadTo there held w
+pub released-read : (e : Element) (w : Style Url) (there : Style Url) (held : Pending) (u : List LexEvent) (b : ℕ) (bs : List ℕ) → IsReadTo there held w
     → Releases e held (class_of b) b → list_any is_less_than (b ∷ bs) ≡ false
-    → read Page (b ∷ bs) (element_at e there held u) ≡ style_at e (read_style urls (b ∷ bs) (style_reading w [])) (told there held u)
+    → read Page (b ∷ bs) (element_at e (OfStyle there) held u) ≡ style_at e (read_style urls (b ∷ bs) (style_reading w [])) (told (OfStyle there) held u)
 released-read e w there held u b bs q r apart =
     let m = both-false (is_less_than b) (list_any is_less_than bs) apart in
     ap (read Page bs) (release-read e there held (class_of b) b u refl (less-or-not b (class_of b) refl m.0) r
-    ∙ ap (λ (v : ValueState). element_at e (languages.feed v b) Nothing (languages.emits v b (told there held u))) q.is)
-    ∙ apart-read e bs (feed_style urls w b) (style_emits urls w b []) (told there held u) m.1
+    ∙ ap (λ (v : ValueState). element_at e (languages.feed v b) Nothing (languages.emits v b (told (OfStyle there) held u))) q.is)
+    ∙ apart-read e bs (feed_style urls w b) (style_emits urls w b []) (told (OfStyle there) held u) m.1
 
-first-read : (e : Element) (s w : Style Url) (there : ValueState) (held : Pending) (u : List LexEvent) (bytes : List ℕ) → IsReadTo there held w → StylesAlike urls s w → ComesToNothing Nothing held s → IsElementHole s bytes
-    → bytes ≢ [] → read Page bytes (element_at e there held u) ≡ style_at e (read_style urls bytes (style_reading w [])) (told there held u)
+first-read : (e : Element) (s w : Style Url) (there : Style Url) (held : Pending) (u : List LexEvent) (bytes : List ℕ) → IsReadTo there held w
+    → StylesAlike urls s w → ComesToNothing Nothing held s → IsElementHole s bytes
+    → bytes ≢ [] → read Page bytes (element_at e (OfStyle there) held u) ≡ style_at e (read_style urls bytes (style_reading w [])) (told (OfStyle there) held u)
 first-read e s w there held u [] q a k h n = absurd (n refl)
 first-read e s w there held u (b ∷ bs) q a k h n = released-read e w there held u b bs q (hole-releases e s w held b bs k a (h.begins w a)) h.apart
 
-settled-read : (e : Element) (s w : Style Url) (there : ValueState) (held : Pending) (u : List LexEvent) (bytes : List ℕ) → StylesAlike urls s w → IsElementHole s bytes
-    → bytes ≢ [] → read Page bytes (element_at e (OfStyle (style_settled w)) Nothing (told_in_style (style_emits_settled w []) (told there held u)))
-    ≡ style_at e (read_style urls bytes (style_reading w [])) (told there held u)
+settled-read : (e : Element) (s w : Style Url) (there : Style Url) (held : Pending) (u : List LexEvent) (bytes : List ℕ) → StylesAlike urls s w
+    → IsElementHole s bytes
+    → bytes ≢ [] → read Page bytes (element_at e (OfStyle (style_settled w)) Nothing (told_in_style (style_emits_settled w []) (told (OfStyle there) held u)))
+    ≡ style_at e (read_style urls bytes (style_reading w [])) (told (OfStyle there) held u)
 settled-read e s w there held u [] a h n = absurd (n refl)
 settled-read e s w there held u (b ∷ bs) a h n =
-    apart-read e (b ∷ bs) (style_settled w) (style_emits_settled w []) (told there held u) h.apart ∙ sym (settled-same e w b bs (told there held u) (h.plain w a))
+    apart-read e (b ∷ bs) (style_settled w) (style_emits_settled w []) (told (OfStyle there) held u) h.apart ∙ sym (settled-same e w b bs (told (OfStyle there) held u) (h.plain w a))
 
-pub element-plain : (e : Element) (s w : Style Url) (there : ValueState) (held : Pending) (u : List LexEvent) (bytes : List ℕ) → IsReadTo there held w → StylesAlike urls s w → ComesToNothing Nothing held s
-    → IsElementHole s bytes → IsPlain bytes (element_at e there held u)
+pub element-plain : (e : Element) (s w : Style Url) (there : Style Url) (held : Pending) (u : List LexEvent) (bytes : List ℕ) → IsReadTo there held w
+    → StylesAlike urls s w → ComesToNothing Nothing held s
+    → IsElementHole s bytes → IsPlain bytes (element_at e (OfStyle there) held u)
 element-plain e s w there held u bytes q a k h = (
   λ n. first-read e s w there held u bytes q a k h n
       ∙ sym (settled-read e s w there held u bytes a h n)
-      ∙ ap (λ (v : ValueState). read Page bytes (element_at e (languages.settled v) Nothing (languages.emits_settled v (told there held u)))) (sym q.is),
+      ∙ ap (λ (v : ValueState). read Page bytes (element_at e (languages.settled v) Nothing (languages.emits_settled v (told (OfStyle there) held u)))) (sym q.is),
   subst (λ (v : ValueState). IsPlainInContent (languages.settled v) e bytes (read Page bytes (element_at e (languages.settled v) Nothing []))) (sym q.is) (plain-content e s w bytes h a),
 )
 
 -- They lead it behind the hole.
-pub marked-at : (e : Element) (s w : Style Url) (there : ValueState) (held : Pending) (u : List LexEvent) (bytes : List ℕ) → IsReadTo there held w → IsElementHole s bytes
+pub marked-at : (e : Element) (s w : Style Url) (there : Style Url) (held : Pending) (u : List LexEvent) (bytes : List ℕ) → IsReadTo there held w
+    → IsElementHole s bytes
     → (let r = OfStyle (style_settled w) in
-    marked bytes (element_at e there held u) ≡ element_at e (languages.behind r (fed_state languages r bytes)) Nothing (mark_if (languages.has_mark (OfStyle w)) (languages.emits_settled (OfStyle w) (told there held u))))
+    marked bytes (element_at e (OfStyle there) held u) ≡ element_at e (languages.behind r (fed_state languages r bytes)) Nothing (mark_if (languages.has_mark (OfStyle w)) (languages.emits_settled (OfStyle w) (told (OfStyle there) held u))))
 marked-at e s w there held u bytes q h =
     let r = OfStyle (style_settled w) in
     ap (λ (v : ValueState). config (state_past_hole languages (in_element e (languages.settled v) Nothing) (read Page bytes (element_at e (languages.settled v) Nothing [])).at)
-    (mark_if (languages.has_mark v) (languages.emits_settled v (told there held u)))) q.is
-    ∙ ap (λ (c : Config ValueState). config (state_past_hole languages (in_element e r Nothing) c.at) (mark_if (languages.has_mark (OfStyle w)) (languages.emits_settled (OfStyle w) (told there held u))))
+    (mark_if (languages.has_mark v) (languages.emits_settled v (told (OfStyle there) held u)))) q.is
+    ∙ ap (λ (c : Config ValueState). config (state_past_hole languages (in_element e r Nothing) c.at) (mark_if (languages.has_mark (OfStyle w)) (languages.emits_settled (OfStyle w) (told (OfStyle there) held u))))
     (content-read e bytes (style_settled w) h.apart)
 
 -- a path behind a hole stands in none of the states in which something waits, unless it is in a comment
@@ -190,24 +195,29 @@ record HoleKept (e : Element) (s : Style Url) (bytes : List ℕ) (t : List LexEv
   stands : TextStands languages (at_hole languages (in_element e (OfStyle s) Nothing)) (mark_in languages (in_element e (OfStyle s) Nothing) t) (marked bytes d)
 
 kept-by : (e : Element) (s : Style Url) (bytes : List ℕ) (t : List LexEvent) (d : Config ValueState) → is_comment s ≡ false → StandsAtStyle languages e s Nothing t d → IsElementHole s bytes
-    → (l : StandsInStyleElement languages e s Nothing t d) (v : ValueState) → behind l.there l.held ≡ v → StatesAlike (OfStyle s) v → HoleKept e s bytes t d
+    → (l : StandsInStyleElement languages e s Nothing t d) (v : ValueState) → behind (OfStyle l.there) l.held ≡ v → StatesAlike (OfStyle s) v
+    → HoleKept e s bytes t d
 kept-by e s bytes t d n g h l (OfKind k) q a = absurd a
 kept-by e s bytes t d n g h l (OfUrl u) q a = absurd a
 kept-by e s bytes t d n g h l (OfScript r) q a = absurd a
 kept-by e s bytes t d n g h l (OfStyle w) q a =
-    let r = OfStyle (style_settled w) in
-    let f = fed_state languages r bytes in
+    let r = style_settled w in
+    let f = (read_style urls bytes (style_reading r [])).at in
+    let fed : fed_state languages (OfStyle r) bytes ≡ OfStyle f = read-at bytes r [] in
     let to : IsReadTo l.there l.held w = record { is = q } in
+    let tells = mark_if (languages.has_mark (OfStyle w)) (languages.emits_settled (OfStyle w) (told (OfStyle l.there) l.held l.told)) in
     record {
       plain = subst (IsPlain bytes) (sym l.at) (element-plain e s w l.there l.held l.told bytes to a l.nothing h);
       stands = (
         tt,
         hole-stands e s t d n g _ _ (record {
-          there = languages.behind r f;
+          there = style_behind urls r f;
           held = Nothing;
-          told = mark_if (languages.has_mark (OfStyle w)) (languages.emits_settled (OfStyle w) (told l.there l.held l.told));
-          at = ap (marked bytes) l.at ∙ marked-at e s w l.there l.held l.told bytes to h;
-          alike = languages-keep.hole (OfStyle s) (OfStyle w) f bytes a (leads-plain w bytes (h.plain w a));
+          told = tells;
+          at = ap (marked bytes) l.at ∙ marked-at e s w l.there l.held l.told bytes to h
+              ∙ ap (λ (v : ValueState). element_at e (languages.behind (OfStyle r) v) Nothing tells) fed;
+          alike = languages-keep.hole (OfStyle s) (OfStyle w) (OfStyle f) bytes a
+              (subst (languages.LeadsPlain (OfStyle r) bytes) fed (leads-plain w bytes (h.plain w a)));
           same = ap₂ mark_if (languages-keep.marks (OfStyle s) (OfStyle w) a) (ap (languages.emits_settled (OfStyle w)) l.same ∙ languages-keep.settles (OfStyle s) (OfStyle w) t a);
           nothing = tt;
         }),
@@ -240,7 +250,7 @@ pub element-hole : (e : Element) (s : Style Url) (bytes : List ℕ) (t : List Le
     → IsPlain bytes d × TextStands languages (at_hole languages (in_element e (OfStyle s) Nothing)) (mark_in languages (in_element e (OfStyle s) Nothing) t) (marked bytes d)
 element-hole e s bytes t d o h l =
     let own = loose-stands e s t d o l in
-    let k = kept-by e s bytes t d (no-comment-loose s o) l h own (behind own.there own.held) refl own.alike in
+    let k = kept-by e s bytes t d (no-comment-loose s o) l h own (behind (OfStyle own.there) own.held) refl own.alike in
     (k.plain, k.stands)
 
 -- in a comment a value is left out

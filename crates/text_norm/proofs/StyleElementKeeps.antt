@@ -26,7 +26,7 @@ use Rattle.place_core.specs.page.Contents.{content_at_cut, emits_content_cut, em
 use Rattle.place_core.specs.page.Events.{LexEvent, EndTagBegins, TagEnds, tag_name_bytes, told_in_style}
 use Rattle.place_core.specs.page.Html.{byte_over}
 use Rattle.place_core.specs.page.References.{Closed}
-use Rattle.place_core.specs.page.States.{BeforeAttributeName, Config, InContent, InLanguage, LessAtCut, Nothing, Page, Pending, PendingBang, PendingBangDash, PendingLess, PendingName, SelfClosingStartTag, Text, config}
+use Rattle.place_core.specs.page.States.{BeforeAttributeName, Config, InContent, InLanguage, LessAtCut, Nothing, Page, Pending, PendingBang, PendingBangDash, PendingLess, PendingName, PendingOpening, SelfClosingStartTag, Text, config}
 use Rattle.place_core.specs.page.Tags.{OfKind, OfStyle, OfUrl, StatesAlike, ValueState, emits_fed, end_tag, fed_state, language_feeding, languages, refuses_in_value, style_code, style_cut, OfScript}
 use Rattle.place_core.specs.place.Errors.{at_hand, cause_back, content_byte_error, content_end_cut_error, cut_cause, end_name_error, fed_error, first_cause, less_error, loose_byte_error, pending_error}
 use Rattle.place_core.specs.declared.code.Code.{Code}
@@ -64,13 +64,15 @@ name-less e true false b v letters u = refl
 name-less e false true b v letters u = refl
 name-less e false false b v letters u = refl
 
-less-read : (e : Element) (v : ValueState) (g : Pending) (u : List LexEvent) → byte_over languages Page 60 (element_at e v g u) ≡ element_at e (behind v g) PendingLess (told v g u)
-less-read e v Nothing u = rw class_less refl
-less-read e v PendingLess u = rw class_less refl
-less-read e v LessAtCut u = rw class_less refl
-less-read e v (PendingName letters) u = rw class_less (name-less e (may_be_name_of e (letters ++ 60 ∷ [])) (is_name_of e letters) 60 v letters u)
-less-read e v PendingBang u = rw class_less refl
-less-read e v PendingBangDash u = rw class_less refl
+less-read : (e : Element) (s : Style Url) (g : Pending) (u : List LexEvent)
+    → byte_over languages Page 60 (element_at e (OfStyle s) g u) ≡ element_at e (behind (OfStyle s) g) PendingLess (told (OfStyle s) g u)
+less-read e s Nothing u = rw class_less refl
+less-read e s PendingLess u = rw class_less refl
+less-read e s LessAtCut u = rw class_less refl
+less-read e s (PendingName letters) u = rw class_less (name-less e (may_be_name_of e (letters ++ 60 ∷ [])) (is_name_of e letters) 60 (OfStyle s) letters u)
+less-read e s PendingBang u = rw class_less refl
+less-read e s PendingBangDash u = rw class_less refl
+less-read e s (PendingOpening letters) u = rw class_less refl
 
 -- a byte by which it does too, and which the style reads then
 abbrev pub NoName : (grows whole : Bool) → Class → Type 0
@@ -98,29 +100,30 @@ name-read e grows true GreaterThan b v letters u n k = absurd k
 name-read e grows whole LessThan b v letters u n k = absurd (no n)
 name-read e grows whole c b v letters u n k = refl
 
-pub release-read : (e : Element) (v : ValueState) (g : Pending) (c : Class) (b : ℕ) (u : List LexEvent) → class_of b ≡ c → is_less c ≡ false → Releases e g c b
-    → byte_over languages Page b (element_at e v g u) ≡ element_at e (languages.feed (behind v g) b) Nothing (languages.emits (behind v g) b (told v g u))
-release-read e v Nothing LessThan b u k n r = absurd (no n)
-release-read e v Nothing c b u k n r = rw k refl
-release-read e v PendingLess Solidus b u k n r = absurd r
-release-read e v PendingLess LessThan b u k n r = absurd (no n)
-release-read e v PendingLess c b u k n r = rw k refl
-release-read e v (PendingName letters) c b u k n r = rw k (name-read e (may_be_name_of e (letters ++ b ∷ [])) (is_name_of e letters) c b v letters u n r)
-release-read e v LessAtCut c b u k n r = absurd r
-release-read e v PendingBang c b u k n r = absurd r
-release-read e v PendingBangDash c b u k n r = absurd r
+pub release-read : (e : Element) (s : Style Url) (g : Pending) (c : Class) (b : ℕ) (u : List LexEvent) → class_of b ≡ c → is_less c ≡ false → Releases e g c b
+    → (let v = behind (OfStyle s) g in byte_over languages Page b (element_at e (OfStyle s) g u) ≡ element_at e (languages.feed v b) Nothing (languages.emits v b (told (OfStyle s) g u)))
+release-read e s Nothing LessThan b u k n r = absurd (no n)
+release-read e s Nothing c b u k n r = rw k refl
+release-read e s PendingLess Solidus b u k n r = absurd r
+release-read e s PendingLess LessThan b u k n r = absurd (no n)
+release-read e s PendingLess c b u k n r = rw k refl
+release-read e s (PendingName letters) c b u k n r = rw k (name-read e (may_be_name_of e (letters ++ b ∷ [])) (is_name_of e letters) c b (OfStyle s) letters u n r)
+release-read e s LessAtCut c b u k n r = absurd r
+release-read e s PendingBang c b u k n r = absurd r
+release-read e s PendingBangDash c b u k n r = absurd r
+release-read e s (PendingOpening letters) c b u k n r = absurd r
 
-pub loose-read : (e : Element) (v : ValueState) (c : Class) (b : ℕ) (u : List LexEvent) → class_of b ≡ c → is_less c ≡ false
-    → byte_over languages Page b (element_at e v Nothing u) ≡ element_at e (languages.feed v b) Nothing (languages.emits v b u)
-loose-read e v c b u k n = release-read e v Nothing c b u k n tt
+pub loose-read : (e : Element) (s : Style Url) (c : Class) (b : ℕ) (u : List LexEvent) → class_of b ≡ c → is_less c ≡ false
+    → byte_over languages Page b (element_at e (OfStyle s) Nothing u) ≡ element_at e (OfStyle (feed_style urls s b)) Nothing (languages.emits (OfStyle s) b u)
+loose-read e s c b u k n = release-read e s Nothing c b u k n tt
 
 -- Where the page is: with what is pending read, it is in a state that is alike to the path's, and has told the same.
 record IsAt (e : Element) (s : Style Url) (held : Pending) (t : List LexEvent) (d : Config ValueState) : Type 0 where
-  there : ValueState
+  there : Style Url
   before : List LexEvent
-  at : d ≡ config (in_element e there held) before
-  alike : StatesAlike (OfStyle s) (fed_state languages there (pending_bytes held))
-  same : emits_fed languages there (pending_bytes held) before ≡ t
+  at : d ≡ config (in_element e (OfStyle there) held) before
+  alike : StatesAlike (OfStyle s) (fed_state languages (OfStyle there) (pending_bytes held))
+  same : emits_fed languages (OfStyle there) (pending_bytes held) before ≡ t
 
 taken-byte : (s : Style Url) (b : ℕ) → style_refuses urls s b ≡ None → refuses_in_value (OfStyle s) b ≡ None
 taken-byte s b n = ap (λ (o : Option RefusalCode). option_map style_code o) n
@@ -128,14 +131,17 @@ taken-byte s b n = ap (λ (o : Option RefusalCode). option_map style_code o) n
 read-on : (e : Element) (s : Style Url) (g : Pending) (c : Class) (b : ℕ) (t : List LexEvent) (d : Config ValueState) → class_of b ≡ c → is_less c ≡ false → Releases e g c b
     → IsAt e s g t d → style_refuses urls s b ≡ None → IsAt e (feed_style urls s b) Nothing (told_in_style (style_emits urls s b []) t) (page languages (b ∷ []) d)
 read-on e s g c b t d k n r h m =
-    let v = behind h.there g in
-    let u = told h.there g h.before in
+    let p = style_behind_bytes h.there (pending_bytes g) in
+    let own = fed-style (pending_bytes g) h.there in
+    let u = told (OfStyle h.there) g h.before in
+    let alike = subst (StatesAlike (OfStyle s)) own h.alike in
     record {
-      there = languages.feed v b;
-      before = languages.emits v b u;
-      at = ap (page languages (b ∷ [])) h.at ∙ release-read e h.there g c b h.before k n r;
-      alike = languages-keep.feeds (OfStyle s) v b h.alike (taken-byte s b m);
-      same = ap (languages.emits v b) h.same ∙ languages-keep.emits (OfStyle s) v b t h.alike (taken-byte s b m);
+      there = feed_style urls p b;
+      before = languages.emits (OfStyle p) b u;
+      at = ap (page languages (b ∷ [])) h.at ∙ release-read e h.there g c b h.before k n r
+          ∙ ap (λ (v : ValueState). element_at e (languages.feed v b) Nothing (languages.emits v b u)) own;
+      alike = languages-keep.feeds (OfStyle s) (OfStyle p) b alike (taken-byte s b m);
+      same = ap (languages.emits (OfStyle p) b) h.same ∙ languages-keep.emits (OfStyle s) (OfStyle p) b t alike (taken-byte s b m);
     }
 
 -- By the path's state: what stands where nothing waits, and where a `/` does.
@@ -185,7 +191,7 @@ spaced : (e : Element) (s : Style Url) (g : Pending) (k : Bool) (t : List LexEve
     → page languages (codes " ") d ≡ behind_space e (told_in_style (blank_once k []) (told_in_style (style_emits urls s 47 []) t))
 spaced e s g k t d h r n f =
     ap (page languages (32 ∷ [])) h.at ∙ release-read e h.there g White 32 h.before class_space refl r
-    ∙ spaced-by e s (behind h.there g) (told h.there g h.before) k t h.alike h.same n f
+    ∙ spaced-by e s (behind (OfStyle h.there) g) (told (OfStyle h.there) g h.before) k t h.alike h.same n f
 
 open-field : (e : Element) (s : Style Url) (b : ℕ) (t : List LexEvent) (d : Config ValueState) (z : Style Url) (held : Pending) → feed_style urls s b ≡ z → is_comment s ≡ false → style_refuses urls s b ≡ None
     → IsAt e s held t (page languages (waits s) d) → (b ≡ 47 → Releases e held White 32) → CommentIf e z (told_in_style (style_emits urls s b []) t) (page languages (style_written urls s b) d)
@@ -238,7 +244,7 @@ read-byte e s c b t d k l n i m r = read-by e s c b t d k l n i m r (opens-or-no
 -- In a comment.
 comment-step : (e : Element) (star : Bool) (c : StyleClass) (t : List LexEvent) (d : Config ValueState) → page languages (codes " ") d ≡ behind_space e t
     → StandsAtStyle languages e (next_style_comment star c) Nothing t (page languages (written_in_comment {U = Url} (next_style_comment star c)) d)
-comment-step e true class.Solidus t d h = record { there = OfStyle (Out (Between true)); held = Nothing; told = t; at = h; alike = outside (the_same _ tt); same = refl; nothing = tt }
+comment-step e true class.Solidus t d h = record { there = Out (Between true); held = Nothing; told = t; at = h; alike = outside (the_same _ tt); same = refl; nothing = tt }
 comment-step e true class.Asterisk t d h = h
 comment-step e false class.Asterisk t d h = h
 comment-step e true c t d h = h
@@ -268,6 +274,7 @@ loose-releases e s LessAtCut c b k h m = absurd h
 loose-releases e s (PendingName letters) c b k h m = absurd h
 loose-releases e s PendingBang c b k h m = absurd h
 loose-releases e s PendingBangDash c b k h m = absurd h
+loose-releases e s (PendingOpening letters) c b k h m = absurd h
 
 white-releases : (e : Element) (s : Style Url) (held : Pending) → ComesToNothing Nothing held s → Releases e held White 32
 white-releases e s Nothing h = tt
@@ -276,6 +283,7 @@ white-releases e s LessAtCut h = absurd h
 white-releases e s (PendingName letters) h = absurd h
 white-releases e s PendingBang h = absurd h
 white-releases e s PendingBangDash h = absurd h
+white-releases e s (PendingOpening letters) h = absurd h
 
 own-is : (e : Element) (s : Style Url) (h : Pending) (t : List LexEvent) (d : Config ValueState) (l : StandsInStyleElement languages e s h t d) → IsAt e s l.held t d
 own-is e s h t d l = record { there = l.there; before = l.told; at = l.at; alike = l.alike; same = l.same }
@@ -320,15 +328,19 @@ held-back e (Out BadUrl) h g t d p l = l
 held-back e (Out s) h g t d p l = still e (Out s) h g t d p l
 held-back e (InUrl f u) h g t d p l = still e (InUrl f u) h g t d p l
 
-held-read : (e : Element) (v : ValueState) (g h : Pending) (u : List LexEvent) → MayGoOn languages e h → IsPending h
-    → page languages (pending_bytes h) (element_at e v g u) ≡ element_at e (behind v g) h (told v g u)
-held-read e v g Nothing u m p = absurd p
-held-read e v g PendingLess u m p = less-read e v g u
-held-read e v g (PendingName letters) u m p =
-    ap (page languages (47 ∷ letters)) (less-read e v g u ∙ sym (less-read e (behind v g) Nothing (told v g u))) ∙ m.goes_on (behind v g) (told v g u)
-held-read e v g LessAtCut u m p = absurd m
-held-read e v g PendingBang u m p = absurd m
-held-read e v g PendingBangDash u m p = absurd m
+held-read : (e : Element) (s : Style Url) (g h : Pending) (u : List LexEvent) → MayGoOn languages e h → IsPending h
+    → page languages (pending_bytes h) (element_at e (OfStyle s) g u) ≡ element_at e (OfStyle (style_behind_bytes s (pending_bytes g))) h (told (OfStyle s) g u)
+held-read e s g Nothing u m p = absurd p
+held-read e s g PendingLess u m p = less-read e s g u ∙ ap (λ (v : ValueState). element_at e v PendingLess (told (OfStyle s) g u)) (fed-style (pending_bytes g) s)
+held-read e s g (PendingName letters) u m p =
+    let r = style_behind_bytes s (pending_bytes g) in
+    let w = told (OfStyle s) g u in
+    ap (page languages (47 ∷ letters)) (less-read e s g u ∙ ap (λ (v : ValueState). element_at e v PendingLess w) (fed-style (pending_bytes g) s) ∙ sym (less-read e r Nothing w))
+    ∙ m.goes_on r w
+held-read e s g LessAtCut u m p = absurd m
+held-read e s g PendingBang u m p = absurd m
+held-read e s g PendingBangDash u m p = absurd m
+held-read e s g (PendingOpening letters) u m p = absurd m
 
 -- bytes that are taken
 abbrev Taken : ValueState → List ℕ → Type 0
@@ -370,6 +382,7 @@ may-no-stars e (PendingName letters) m = end-tag-no-stars letters m.alphabetic
 may-no-stars e LessAtCut m = absurd m
 may-no-stars e PendingBang m = absurd m
 may-no-stars e PendingBangDash m = absurd m
+may-no-stars e (PendingOpening letters) m = absurd m
 
 -- Behind what was pending on the path, where it comes to nothing. Outside of comments:
 abbrev at_released : Style Url → Pending → Config ValueState → Config ValueState
@@ -384,21 +397,22 @@ told_released s h t = emits_fed languages (OfStyle s) (pending_bytes h) t
 released-is : (e : Element) (s : Style Url) (h : Pending) (t : List LexEvent) (d : Config ValueState) → MayGoOn languages e h → IsPending h → Taken (OfStyle s) (pending_bytes h) → is_comment s ≡ false
     → StandsAtStyle languages e s h t d
     → IsAt e (style_released s h) h (told_released s h t) (page languages (waits (style_released s h)) (at_released s h d))
-released-is e s h t d m p k n l =
+released-is e s h t d m q k n l =
     let bs = pending_bytes h in
     let own = as-is e s h t d n l in
-    let v = behind own.there own.held in
+    let p = style_behind_bytes own.there (pending_bytes own.held) in
+    let alike = subst (StatesAlike (OfStyle s)) (fed-style (pending_bytes own.held) own.there) own.alike in
     let z = style_behind_bytes s bs in
     record {
-      there = v;
-      before = told own.there own.held own.told;
+      there = p;
+      before = told (OfStyle own.there) own.held own.told;
       at = sym (over-append languages Page (released_out style_writing (OfStyle s) bs) (waits z) d)
           ∙ ap (λ (out : List ℕ). page languages out d) (sym (waits-bytes bs s (may-no-stars e h m) n))
           ∙ over-append languages Page (waits s) bs d
           ∙ ap (page languages bs) own.at
-          ∙ held-read e own.there own.held h own.told m p;
-      alike = subst (λ (y : ValueState). StatesAlike y (fed_state languages v bs)) (fed-style bs s) (fed-alike bs (OfStyle s) v own.alike k);
-      same = ap (emits_fed languages v bs) own.same ∙ told-alike bs (OfStyle s) v t own.alike k;
+          ∙ held-read e own.there own.held h own.told m q;
+      alike = subst (λ (y : ValueState). StatesAlike y (fed_state languages (OfStyle p) bs)) (fed-style bs s) (fed-alike bs (OfStyle s) (OfStyle p) alike k);
+      same = ap (emits_fed languages (OfStyle p) bs) own.same ∙ told-alike bs (OfStyle s) (OfStyle p) t alike k;
     }
 
 none-waits : (e : Element) (z : Style Url) (t : List LexEvent) (d : Config ValueState) → waits z ≡ [] → CommentIf e z t d
@@ -430,6 +444,7 @@ released-field e s (PendingName (b ∷ letters)) t d m p k n l =
 released-field e s LessAtCut t d m p k n l = absurd m
 released-field e s PendingBang t d m p k n l = absurd m
 released-field e s PendingBangDash t d m p k n l = absurd m
+released-field e s (PendingOpening letters) t d m p k n l = absurd m
 
 -- where the byte itself is a `/`, the page's letters are no whole name
 name-white : (grows whole more : Bool) → NoName grows whole Solidus → NoName more whole White
@@ -445,6 +460,7 @@ white-too e (PendingName letters) b r = name-white (may_be_name_of e (letters ++
 white-too e LessAtCut b r = absurd r
 white-too e PendingBang b r = absurd r
 white-too e PendingBangDash b r = absurd r
+white-too e (PendingOpening letters) b r = absurd r
 
 solidus-white : (e : Element) (h : Pending) (c : Class) (b : ℕ) → class_of b ≡ c → Releases e h c b → b ≡ 47 → Releases e h White 32
 solidus-white e h c b k r q = white-too e h b (subst (λ (z : Class). Releases e h z b) (sym k ∙ ap class_of q ∙ class_solidus) r)
@@ -480,6 +496,7 @@ in-comment e s (PendingName letters) t n m p = (let k = end-tag-no-stars letters
 in-comment e s LessAtCut t n m p = absurd m
 in-comment e s PendingBang t n m p = absurd m
 in-comment e s PendingBangDash t n m p = absurd m
+in-comment e s (PendingOpening letters) t n m p = absurd m
 
 comment-stands : (e : Element) (s : Style Url) (h : Pending) (t : List LexEvent) (d : Config ValueState) → is_comment s ≡ true → StandsAtStyle languages e s h t d → page languages (codes " ") d ≡ behind_space e t
 comment-stands e (Out (Comment star)) h t d n l = l
@@ -580,16 +597,16 @@ comment-ends (Out s) t n = absurd (true≢false (sym n))
 comment-ends (InUrl f u) t n = absurd (true≢false (sym n))
 
 record EndsBehind (e : Element) (s : Style Url) (letters : List ℕ) (t : List LexEvent) (d : Config ValueState) : Type 0 where
-  there : ValueState
+  there : Style Url
   before : List LexEvent
-  at : page languages (language_cut_out (OfStyle s) ++ (codes "</" ++ letters)) d ≡ element_at e there (PendingName letters) before
-  same : languages.ends there before ≡ languages.ends (OfStyle s) t
+  at : page languages (language_cut_out (OfStyle s) ++ (codes "</" ++ letters)) d ≡ element_at e (OfStyle there) (PendingName letters) before
+  same : languages.ends (OfStyle there) before ≡ languages.ends (OfStyle s) t
 
 ends-by : (e : Element) (s : Style Url) (comment : Bool) (letters : List ℕ) (t : List LexEvent) (d : Config ValueState) → is_comment s ≡ comment → EndTagBegun languages e letters
     → StandsAtStyle languages e s (PendingName letters) t d → EndsBehind e s letters t d
 ends-by e s true letters t d n m l =
     let bs = codes "</" ++ letters in
-    let v = OfStyle (Out (Between true)) in
+    let v : Style Url = Out (Between true) in
     record {
       there = v;
       before = t;
@@ -601,18 +618,19 @@ ends-by e s true letters t d n m l =
 ends-by e s false letters t d n m l =
     let bs = codes "</" ++ letters in
     let own = as-is e s (PendingName letters) t d n l in
-    let v = behind own.there own.held in
+    let p = style_behind_bytes own.there (pending_bytes own.held) in
+    let alike = subst (StatesAlike (OfStyle s)) (fed-style (pending_bytes own.held) own.there) own.alike in
     record {
-      there = v;
-      before = told own.there own.held own.told;
+      there = p;
+      before = told (OfStyle own.there) own.held own.told;
       at = over-append languages Page (style_written_at_cut s) bs d
           ∙ ap (page languages bs) (ap (λ (out : List ℕ). page languages out d) (cut-waits-all s n) ∙ own.at)
           ∙ held-read e own.there own.held (PendingName letters) own.told m tt;
-      same = ap (languages.ends v) own.same ∙ languages-keep.ends (OfStyle s) v t own.alike;
+      same = ap (languages.ends (OfStyle p)) own.same ∙ languages-keep.ends (OfStyle s) (OfStyle p) t alike;
     }
 
 end-tag-read : (e : Element) (s : Style Url) (letters : List ℕ) (b : ℕ) (t : List LexEvent) (d : Config ValueState) → EndTagBegun languages e letters → StandsAtStyle languages e s (PendingName letters) t d
-    → (z : EndsBehind e s letters t d) × (page languages (end_tag_out style_writing letters b (OfStyle s)) d ≡ byte_over languages Page b (element_at e z.there (PendingName letters) z.before))
+    → (z : EndsBehind e s letters t d) × (page languages (end_tag_out style_writing letters b (OfStyle s)) d ≡ byte_over languages Page b (element_at e (OfStyle z.there) (PendingName letters) z.before))
 end-tag-read e s letters b t d m l =
     let z = ends-by e s (is_comment s) letters t d refl m l in
     let cut = language_cut_out (OfStyle s) in
@@ -630,7 +648,7 @@ in-name : (e : Element) (s : Style Url) (grows whole : Bool) (letters : List ℕ
 in-name e s true whole letters (Letter l) b t d k g w x m h = (
   record {
     alphabetic = one-more e letters b (Letter l) m k (letter-alphabetic b l k);
-    goes_on = λ v u. on languages (codes "</" ++ letters) (b ∷ []) (config (in_element e v Nothing) u) _ (m.goes_on v u) ∙ rw (k, g) refl;
+    goes_on = λ v u. on languages (codes "</" ++ letters) (b ∷ []) (config (in_element e (OfStyle v) Nothing) u) _ (m.goes_on v u) ∙ rw (k, g) refl;
   },
   held-back e s (PendingName letters) (PendingName (letters ++ b ∷ [])) t d tt h,
 )
@@ -662,18 +680,16 @@ in-loose : (e : Element) (s : Style Url) (c : Class) (b : ℕ) (t : List LexEven
 in-loose e s LessThan b t d k x h = (tt, held-back e s Nothing PendingLess t d tt h)
 in-loose e s c b t d k x h = (tt, style-loose e s c b t d k refl (own-none (style_refuses urls s b) (at-hand-none _ x)) h)
 
-pub in-language : (e : Element) (v : ValueState) (h : Pending) (c : Class) (b : ℕ) (t : List LexEvent) (d : Config ValueState) → class_of b ≡ c → content_byte_error (language_feeding languages) e v h c b ≡ None
-    → StandsInLanguage languages e v h t d
-    → TextStands languages (next_in_content languages h c b e (InLanguage v)) (emits_in_content languages h c b e (InLanguage v) t) (page languages (language_content_out style_writing h c b e v) d)
-in-language e (OfStyle s) Nothing c b t d k x l = in-loose e s c b t d k x l.1
-in-language e (OfStyle s) PendingLess c b t d k x l = in-less e s c b t d k x l.1
-in-language e (OfStyle s) (PendingName letters) c b t d k x l = in-name e s (may_be_name_of e (letters ++ b ∷ [])) (is_name_of e letters) letters c b t d k refl refl x l.0 l.1
-in-language e (OfStyle s) LessAtCut c b t d k x l = absurd l.0
-in-language e (OfStyle s) PendingBang c b t d k x l = absurd l.0
-in-language e (OfStyle s) PendingBangDash c b t d k x l = absurd l.0
-in-language e (OfKind j) h c b t d k x l = absurd l
-in-language e (OfUrl u) h c b t d k x l = absurd l
-in-language e (OfScript s) h c b t d k x l = absurd l
+pub in-language : (e : Element) (s : Style Url) (h : Pending) (c : Class) (b : ℕ) (t : List LexEvent) (d : Config ValueState) → class_of b ≡ c → content_byte_error (language_feeding languages) e (OfStyle s) h c b ≡ None
+    → StandsInLanguage languages e (OfStyle s) h t d
+    → TextStands languages (next_in_content languages h c b e (InLanguage (OfStyle s))) (emits_in_content languages h c b e (InLanguage (OfStyle s)) t) (page languages (language_content_out style_writing h c b e (OfStyle s)) d)
+in-language e s Nothing c b t d k x l = in-loose e s c b t d k x l.1
+in-language e s PendingLess c b t d k x l = in-less e s c b t d k x l.1
+in-language e s (PendingName letters) c b t d k x l = in-name e s (may_be_name_of e (letters ++ b ∷ [])) (is_name_of e letters) letters c b t d k refl refl x l.0 l.1
+in-language e s LessAtCut c b t d k x l = absurd l.0
+in-language e s PendingBang c b t d k x l = absurd l.0
+in-language e s PendingBangDash c b t d k x l = absurd l.0
+in-language e s (PendingOpening letters) c b t d k x l = absurd l.0
 
 -- The end of a node.
 nothing-cut : (held : Pending) (s : Style Url) → ComesToNothing Nothing held s → ComesToNothing Nothing held (style_after_cut urls s)
@@ -685,6 +701,7 @@ nothing-cut LessAtCut s h = absurd h
 nothing-cut (PendingName letters) s h = absurd h
 nothing-cut PendingBang s h = absurd h
 nothing-cut PendingBangDash s h = absurd h
+nothing-cut (PendingOpening letters) s h = absurd h
 
 cut-stands : (e : Element) (s : Style Url) (t : List LexEvent) (d : Config ValueState) → is_comment s ≡ false → is_bad s ≡ false → StandsInStyleElement languages e (style_after_cut urls s) Nothing t d
     → StandsAtStyle languages e (style_after_cut urls s) Nothing t d
@@ -719,7 +736,7 @@ cut-by e s false t d n m l =
       held = own.held;
       told = own.told;
       at = own.at;
-      alike = languages-keep.after_cut (OfStyle s) (behind own.there own.held) own.alike m;
+      alike = languages-keep.after_cut (OfStyle s) (behind (OfStyle own.there) own.held) own.alike m;
       same = own.same;
       nothing = nothing-cut own.held s own.nothing;
     }))
@@ -771,7 +788,7 @@ less-cut-at e (Out AfterLessThan) t d q m i = record {
   held = PendingLess;
   told = i.before;
   at = i.at;
-  alike = languages-keep.after_cut (OfStyle (Out AfterLessThan)) (behind i.there PendingLess) i.alike m;
+  alike = languages-keep.after_cut (OfStyle (Out AfterLessThan)) (behind (OfStyle i.there) PendingLess) i.alike m;
   same = i.same;
   nothing = tt;
 }
@@ -792,13 +809,13 @@ less-cut-by e s false t d n f r m l =
     let at = less-at-cut s n (not-bad e s PendingLess t d l) r in
     less-cut-at e (feed_style urls s 60) (told_released s PendingLess t) (at_released s PendingLess d) at m i
 
-pub cut-language : (e : Element) (v : ValueState) (h : Pending) (t : List LexEvent) (d : Config ValueState)
-    → content_end_cut_error (language_feeding languages) (λ (w : ValueState). option_map cut_cause (languages.refuses_less w)) v h ≡ None
-    → languages.refuses_cut (fed_state languages v (pending_bytes h)) ≡ None → StandsInLanguage languages e v h t d
-    → TextStands languages (InContent e (content_at_cut languages (InLanguage v) h) (pending_at_cut (InLanguage v) h)) (emits_content_cut languages (InLanguage v) h t)
-    (page languages (cut_out languages (InContent e (InLanguage v) h)) d)
-cut-language e (OfStyle s) Nothing t d x m l = (tt, cut-by e s (is_comment s) t d refl m l.1)
-cut-language e (OfStyle s) PendingLess t d x m l =
+pub cut-language : (e : Element) (s : Style Url) (h : Pending) (t : List LexEvent) (d : Config ValueState)
+    → content_end_cut_error (language_feeding languages) (λ (w : ValueState). option_map cut_cause (languages.refuses_less w)) (OfStyle s) h ≡ None
+    → languages.refuses_cut (fed_state languages (OfStyle s) (pending_bytes h)) ≡ None → StandsInLanguage languages e (OfStyle s) h t d
+    → TextStands languages (InContent e (content_at_cut languages (InLanguage (OfStyle s)) h) (pending_at_cut (InLanguage (OfStyle s)) h)) (emits_content_cut languages (InLanguage (OfStyle s)) h t)
+    (page languages (cut_out languages (InContent e (InLanguage (OfStyle s)) h)) d)
+cut-language e s Nothing t d x m l = (tt, cut-by e s (is_comment s) t d refl m l.1)
+cut-language e s PendingLess t d x m l =
     let z = feed_style urls s 60 in
     let y = both-none (pending_error (language_feeding languages) (OfStyle s) (codes "<")) _ x in (
       tt,
@@ -806,14 +823,12 @@ cut-language e (OfStyle s) PendingLess t d x m l =
           (sym (over-append languages Page (released_out style_writing (OfStyle s) (codes "<")) (style_written_at_cut z) d))
           (less-cut-by e s (is_comment s) t d refl (taken-by (OfStyle s) (codes "<") 1 y.0) (mapped-none (refuses_less_than_cut urls s) y.1) m l.1),
     )
-cut-language e (OfStyle s) (PendingName letters) t d x m l = absurd (some _ (both-none (pending_error (language_feeding languages) (OfStyle s) (codes "</" ++ letters)) _ x).1)
-cut-language e (OfStyle s) LessAtCut t d x m l = absurd l.0
-cut-language e (OfStyle s) PendingBang t d x m l = absurd l.0
-cut-language e (OfStyle s) PendingBangDash t d x m l = absurd l.0
-cut-language e (OfKind j) h t d x m l = absurd l
-cut-language e (OfUrl u) h t d x m l = absurd l
-cut-language e (OfScript s) h t d x m l = absurd l
+cut-language e s (PendingName letters) t d x m l = absurd (some _ (both-none (pending_error (language_feeding languages) (OfStyle s) (codes "</" ++ letters)) _ x).1)
+cut-language e s LessAtCut t d x m l = absurd l.0
+cut-language e s PendingBang t d x m l = absurd l.0
+cut-language e s PendingBangDash t d x m l = absurd l.0
+cut-language e s (PendingOpening letters) t d x m l = absurd l.0
 
 -- Where a style begins.
 pub style-begins : (e : Element) (t : List LexEvent) (d : Config ValueState) → d ≡ config (in_element e (OfStyle (Out (Between false))) Nothing) t → StandsInLanguage languages e (OfStyle (Out (Between false))) Nothing t d
-style-begins e t d h = (tt, record { there = OfStyle (Out (Between false)); held = Nothing; told = t; at = h; alike = outside (the_same _ tt); same = refl; nothing = tt })
+style-begins e t d h = (tt, record { there = Out (Between false); held = Nothing; told = t; at = h; alike = outside (the_same _ tt); same = refl; nothing = tt })

@@ -17,7 +17,7 @@ use Rattle.place_core.specs.page.Contents.{pending_bytes}
 use Rattle.place_core.specs.page.Events.{LexEvent, told_in_style}
 use Rattle.place_core.specs.page.Html.{read}
 use Rattle.place_core.specs.page.Shape.{marked}
-use Rattle.place_core.specs.page.States.{Config, InContent, InLanguage, LessAtCut, LexState, Nothing, Page, Pending, PendingBang, PendingBangDash, PendingLess, PendingName, config}
+use Rattle.place_core.specs.page.States.{Config, InContent, InLanguage, LessAtCut, LexState, Nothing, Page, Pending, PendingBang, PendingBangDash, PendingLess, PendingName, config, PendingOpening}
 use Rattle.place_core.specs.page.Tags.{DoubleQuoted, OfKind, OfStyle, OfUrl, StatesAlike, ValueOf, ValueState, fed_state, languages, mark_if, OfScript}
 use Rattle.place_core.specs.declared.element.Element.{Element}
 use Rattle.place_core.specs.declared.element.Element.TheVariants as element
@@ -54,12 +54,12 @@ record MayGoOn (v r : Style Url) (held : Pending) : Type 0 where
   path : style_after_hole urls v ≡ Out (BehindHole solidus true)
 
 record IsThere (e : Element) (v r : Style Url) (u : List LexEvent) (d : Config ValueState) : Type 0 where
-  there : ValueState
+  there : Style Url
   held : Pending
   before : List LexEvent
-  at : d ≡ element_at e there held before
-  is : behind there held ≡ OfStyle r
-  tells : told there held before ≡ u
+  at : d ≡ element_at e (OfStyle there) held before
+  is : behind (OfStyle there) held ≡ OfStyle r
+  tells : told (OfStyle there) held before ≡ u
   less : (held ≡ Nothing) ⊎ ((held ≡ PendingLess) × MayGoOn v r held)
 
 -- or it is behind a `/` that the other has told
@@ -135,16 +135,16 @@ less-at e v r u d h k g =
     (inr (record {
       there = h.there;
       told = h.before;
-      raw = h.at ∙ ap (λ (z : Pending). element_at e h.there z h.before) k;
-      leads = sym (ap (behind h.there) k) ∙ h.is ∙ ap OfStyle g.behind_less;
+      raw = h.at ∙ ap (λ (z : Pending). element_at e (OfStyle h.there) z h.before) k;
+      leads = sym (ap (behind (OfStyle h.there)) k) ∙ h.is ∙ ap OfStyle g.behind_less;
       is_settled = ap (λ (z : Style Url). AtEnd e z [] u) g.behind_less
-          ∙ ap (λ (t : List LexEvent). element_at e (OfStyle (Out AfterLessThan)) Nothing t) (sym h.tells ∙ ap (λ (z : Pending). told h.there z h.before) k);
+          ∙ ap (λ (t : List LexEvent). element_at e (OfStyle (Out AfterLessThan)) Nothing t) (sym h.tells ∙ ap (λ (z : Pending). told (OfStyle h.there) z h.before) k);
     })))))
 
 nothing-at : (e : Element) (v r : Style Url) (u : List LexEvent) (d : Config ValueState) (h : IsThere e v r u d) → h.held ≡ Nothing → d ≡ element_at e (OfStyle r) Nothing u
 nothing-at e v r u d h k =
-    h.at ∙ ap (λ (z : Pending). element_at e h.there z h.before) k
-    ∙ ap₂ (λ (z : ValueState) (t : List LexEvent). element_at e z Nothing t) (sym (ap (behind h.there) k) ∙ h.is) (sym (ap (λ (z : Pending). told h.there z h.before) k) ∙ h.tells)
+    h.at ∙ ap (λ (z : Pending). element_at e (OfStyle h.there) z h.before) k
+    ∙ ap₂ (λ (z : ValueState) (t : List LexEvent). element_at e z Nothing t) (sym (ap (behind (OfStyle h.there)) k) ∙ h.is) (sym (ap (λ (z : Pending). told (OfStyle h.there) z h.before) k) ∙ h.tells)
 
 there-behind : (e : Element) (vs : List Filling) (v w r : Style Url) (u : List LexEvent) (d : Config ValueState) → StylesAlike urls v w → StyleBeside vs w r u → (h : IsThere e v r u d)
     → (h.held ≡ Nothing) ⊎ ((h.held ≡ PendingLess) × MayGoOn v r h.held) → RawBehind e v r u d
@@ -167,8 +167,9 @@ abbrev MarkedAt : Element → Style Url → List ℕ → List LexEvent → Confi
 MarkedAt e w bs t =
     element_at e (OfStyle (style_behind urls (style_settled w) (style_fed (style_settled w) bs))) Nothing (mark_if (has_mark w) (told_in_style (style_emits_settled w []) t))
 
-marked-there : (e : Element) (v w : Style Url) (there : ValueState) (held : Pending) (u t : List LexEvent) (bytes : List ℕ) → IsReadTo there held w → IsElementHole v bytes
-    → told there held u ≡ t → marked bytes (element_at e there held u) ≡ MarkedAt e w bytes t
+marked-there : (e : Element) (v w : Style Url) (there : Style Url) (held : Pending) (u t : List LexEvent) (bytes : List ℕ) → IsReadTo there held w
+    → IsElementHole v bytes
+    → told (OfStyle there) held u ≡ t → marked bytes (element_at e (OfStyle there) held u) ≡ MarkedAt e w bytes t
 marked-there e v w there held u t bytes q h k =
     marked-at e v w there held u bytes q h
     ∙ ap₂ (λ (z : ValueState) (y : List LexEvent). element_at e (languages.behind (OfStyle (style_settled w)) z) Nothing (mark_if (has_mark w) (told_in_style (style_emits_settled w []) y)))
@@ -242,6 +243,7 @@ may-go-on vs LessAtCut v w r u h a b = absurd h
 may-go-on vs (PendingName letters) v w r u h a b = absurd h
 may-go-on vs PendingBang v w r u h a b = absurd h
 may-go-on vs PendingBangDash v w r u h a b = absurd h
+may-go-on vs (PendingOpening letters) v w r u h a b = absurd h
 
 hole-holds-none : (held : Pending) (solidus less : Bool) → ComesToNothing Nothing held (Out (BehindHole solidus less)) → held ≡ Nothing
 hole-holds-none Nothing solidus less h = refl
@@ -250,18 +252,19 @@ hole-holds-none LessAtCut solidus less h = absurd h
 hole-holds-none (PendingName letters) solidus less h = absurd h
 hole-holds-none PendingBang solidus less h = absurd h
 hole-holds-none PendingBangDash solidus less h = absurd h
+hole-holds-none (PendingOpening letters) solidus less h = absurd h
 
-module _ (e : Element) (r : Style Url) (y : ValueState) (held : Pending) (d settled : Config ValueState) (at : settled.at ≡ in_element e y held) (is : behind y held ≡ OfStyle r) where
+module _ (e : Element) (r y : Style Url) (held : Pending) (d settled : Config ValueState) (at : settled.at ≡ in_element e (OfStyle y) held) (is : behind (OfStyle y) held ≡ OfStyle r) where
   -- where HTML holds nothing back, by what the marked reading has come to
   settled-style : (s : Style Url) (u : List LexEvent) → held ≡ Nothing → settled ≡ element_at e (OfStyle s) Nothing u → r ≡ s
   settled-style s u k h =
-      ap style_in (sym is ∙ ap (behind y) k ∙ sym (ap state_in at) ∙ ap (λ (c : Config ValueState). state_in c.at) h)
+      ap style_in (sym is ∙ ap (behind (OfStyle y)) k ∙ sym (ap state_in at) ∙ ap (λ (c : Config ValueState). state_in c.at) h)
 
-  settled-told : (s : Style Url) (u : List LexEvent) → held ≡ Nothing → settled ≡ element_at e (OfStyle s) Nothing u → told y held settled.emitted ≡ u
-  settled-told s u k h = ap (λ (z : Pending). told y z settled.emitted) k ∙ ap (λ (c : Config ValueState). c.emitted) h
+  settled-told : (s : Style Url) (u : List LexEvent) → held ≡ Nothing → settled ≡ element_at e (OfStyle s) Nothing u → told (OfStyle y) held settled.emitted ≡ u
+  settled-told s u k h = ap (λ (z : Pending). told (OfStyle y) z settled.emitted) k ∙ ap (λ (c : Config ValueState). c.emitted) h
 
   solidus-there : (v : Style Url) (solidus less : Bool) → v ≡ Out (BehindHole solidus less) → held ≡ Nothing → SolidusIf solidus e d settled
-      → StandsThere e v r (told y held settled.emitted) d
+      → StandsThere e v r (told (OfStyle y) held settled.emitted) d
   solidus-there v true less i k h = inr (record {
     blank = h.blank;
     less = less;
@@ -274,9 +277,9 @@ module _ (e : Element) (r : Style Url) (y : ValueState) (held : Pending) (d sett
   solidus-there v false less i k h = absurd h
 
   less-there : (v : Style Url) (solidus less : Bool) → v ≡ Out (BehindHole solidus less) → held ≡ Nothing → LessIf less e d settled
-      → StandsThere e v r (told y held settled.emitted) d
+      → StandsThere e v r (told (OfStyle y) held settled.emitted) d
   less-there v solidus true i k h =
-      let u = languages.emits h.there 60 h.told in
+      let u = languages.emits (OfStyle h.there) 60 h.told in
       let same = settled-style (Out AfterLessThan) u k h.is_settled in
       inl (record {
         there = h.there;
@@ -289,22 +292,24 @@ module _ (e : Element) (r : Style Url) (y : ValueState) (held : Pending) (d sett
       })
   less-there v solidus false i k h = absurd h
 
-  element-there : (v : Style Url) → ComesToNothing Nothing held v → IsElementPending (in_style_element e v) d settled → StandsThere e v r (told y held settled.emitted) d
+  element-there : (v : Style Url) → ComesToNothing Nothing held v → IsElementPending (in_style_element e v) d settled
+      → StandsThere e v r (told (OfStyle y) held settled.emitted) d
   element-there (Out (BehindHole solidus less)) n (inl h) = solidus-there (Out (BehindHole solidus less)) solidus less refl (hole-holds-none held solidus less n) h
   element-there (Out (BehindHole solidus less)) n (inr h) = less-there (Out (BehindHole solidus less)) solidus less refl (hole-holds-none held solidus less n) h
   element-there _ n h = absurd h
 
   -- where it holds a `<` back, behind a `/`
-  held-there : (v : Style Url) → (held ≡ Nothing) ⊎ ((held ≡ PendingLess) × MayGoOn v r held) → SolidusHeld d settled → StandsThere e v r (told y held settled.emitted) d
+  held-there : (v : Style Url) → (held ≡ Nothing) ⊎ ((held ≡ PendingLess) × MayGoOn v r held) → SolidusHeld d settled
+      → StandsThere e v r (told (OfStyle y) held settled.emitted) d
   held-there v (inl k) h = absurd (subst IsPending (ap (λ (c : Config ValueState). pending_in c.at) (sym h.own.is_settled) ∙ ap pending_in at ∙ k) h.holds)
   held-there v (inr k) h =
       let blank = h.own.blank in
       let u = h.own.told in
       let held-same : h.held ≡ held = ap (λ (c : Config ValueState). pending_in c.at) (sym h.own.is_settled) ∙ ap pending_in at in
       let element-same : h.element ≡ e = ap (λ (c : Config ValueState). element_in c.at) (sym h.own.is_settled) ∙ ap element_in at in
-      let state-same : told_state ≡ y = ap (λ (c : Config ValueState). state_in c.at) (sym h.own.is_settled) ∙ ap state_in at in
+      let state-same : told_state ≡ OfStyle y = ap (λ (c : Config ValueState). state_in c.at) (sym h.own.is_settled) ∙ ap state_in at in
       inl (record {
-        there = raw_state blank;
+        there = Out (AfterSolidus blank);
         held = held;
         before = u;
         at = h.own.raw ∙ ap₂ (λ (i : Element) (z : Pending). element_at i (raw_state blank) z u) element-same held-same;
@@ -315,7 +320,7 @@ module _ (e : Element) (r : Style Url) (y : ValueState) (held : Pending) (d sett
       })
 
   there-from : (v : Style Url) → ComesToNothing Nothing held v → (held ≡ Nothing) ⊎ ((held ≡ PendingLess) × MayGoOn v r held) → AreRaw (in_style_element e v) d settled
-      → StandsThere e v r (told y held settled.emitted) d
+      → StandsThere e v r (told (OfStyle y) held settled.emitted) d
   there-from v n g (inl h) = inl (record {
     there = y;
     held = held;
@@ -330,9 +335,11 @@ module _ (e : Element) (r : Style Url) (y : ValueState) (held : Pending) (d sett
   there-from v n g (inr (inr (inr h))) = held-there v g h
 
 lead-by : (e : Element) (v : Style Url) (text bytes : List ℕ) → IsStyleFilled v DoubleQuoted text bytes → IsElementHole v bytes
-    → (vs : List Filling) (t : List LexEvent) (m d settled : Config ValueState) (l : StandsInStyleElement languages e v Nothing t m) (y : ValueState) → settled.at ≡ in_element e y l.held
-    → AreRaw (in_style_element e v) d settled → (x z : ValueState) → behind l.there l.held ≡ x → behind y l.held ≡ z → StatesAlike (OfStyle v) x
-    → RawFilled vs x z t (told y l.held settled.emitted)
+    → (vs : List Filling) (t : List LexEvent) (m d settled : Config ValueState) (l : StandsInStyleElement languages e v Nothing t m) (y : Style Url)
+    → settled.at ≡ in_element e (OfStyle y) l.held
+    → AreRaw (in_style_element e v) d settled → (x z : ValueState) → behind (OfStyle l.there) l.held ≡ x → behind (OfStyle y) l.held ≡ z
+    → StatesAlike (OfStyle v) x
+    → RawFilled vs x z t (told (OfStyle y) l.held settled.emitted)
     → StandsRaw (in_style_element e (style_after_hole urls v)) (value_fillings (ValueOf (OfStyle v)) DoubleQuoted text vs) (marked bytes m) (read Page bytes d)
 lead-by e v text bytes k h vs t m d settled l y at p (OfKind j) z i q a f = absurd a
 lead-by e v text bytes k h vs t m d settled l y at p (OfUrl o) z i q a f = absurd a
@@ -341,21 +348,35 @@ lead-by e v text bytes k h vs t m d settled l y at p (OfStyle w) (OfKind j) i q 
 lead-by e v text bytes k h vs t m d settled l y at p (OfStyle w) (OfUrl o) i q a f = absurd f.0
 lead-by e v text bytes k h vs t m d settled l y at p (OfStyle w) (OfScript o) i q a f = absurd f.0
 lead-by e v text bytes k h vs t m d settled l y at p (OfStyle w) (OfStyle r) i q a f =
-    let u = told y l.held settled.emitted in
+    let u = told (OfStyle y) l.held settled.emitted in
     let own = value_fillings (ValueOf (OfStyle v)) DoubleQuoted text vs in
     let there = there-from e r y l.held d settled at q v l.nothing (may-go-on vs l.held v w r u l.nothing a f.0) p in
     subst (λ (c : Config ValueState). StandsRaw (in_style_element e (style_after_hole urls v)) own c (read Page bytes d))
     (sym (ap (marked bytes) l.at ∙ marked-there e v w l.there l.held l.told t bytes (record { is = i }) h l.same))
     (raw-behind e v text bytes k h vs t w r u d a f.0 f.1 (λ o. marked-less vs w u (subst (λ (s : Style Url). StyleBeside vs w s u) o f.0)) there)
 
+-- in both readings it is a style
+lead-from : (e : Element) (v : Style Url) (text bytes : List ℕ) → IsStyleFilled v DoubleQuoted text bytes → IsElementHole v bytes
+    → (vs : List Filling) (t : List LexEvent) (m d settled : Config ValueState) (l : StandsInStyleElement languages e v Nothing t m) (y : ValueState)
+    → settled.at ≡ in_element e y l.held
+    → AreRaw (in_style_element e v) d settled → RawFilled vs (OfStyle l.there) y l.told settled.emitted
+    → StandsRaw (in_style_element e (style_after_hole urls v)) (value_fillings (ValueOf (OfStyle v)) DoubleQuoted text vs) (marked bytes m) (read Page bytes d)
+lead-from e v text bytes k h vs t m d settled l (OfKind j) at p b = absurd b.0
+lead-from e v text bytes k h vs t m d settled l (OfUrl o) at p b = absurd b.0
+lead-from e v text bytes k h vs t m d settled l (OfScript o) at p b = absurd b.0
+lead-from e v text bytes k h vs t m d settled l (OfStyle y) at p b =
+    let x = behind (OfStyle l.there) l.held in
+    let z = behind (OfStyle y) l.held in
+    let f = fed-step ValueState languages (Filled vs) (RawFilled vs) (raw-reads vs) (pending_bytes l.held) (OfStyle l.there) (OfStyle y) l.told settled.emitted b in
+    lead-by e v text bytes k h vs t m d settled l y at p x z refl refl l.alike
+    (subst (λ (i : List LexEvent). RawFilled vs x z i (told (OfStyle y) l.held settled.emitted)) l.same f)
+
 pub element-leads : (e : Element) (v : Style Url) (text bytes : List ℕ) → IsLoose v → IsStyleFilled v DoubleQuoted text bytes → IsElementHole v bytes
     → Leads (in_style_element e v) text bytes
 element-leads e v text bytes o k h vs t m d l r =
     let own = loose-stands e v t m o l.1 in
     let b = subst (λ (c : Config ValueState). RawStands vs c r.settled) own.at r.beside in
-    let f = fed-step ValueState languages (Filled vs) (RawFilled vs) (raw-reads vs) (pending_bytes own.held) own.there b.1 own.told r.settled.emitted b.3 in
-    lead-by e v text bytes k h vs t m d r.settled own b.1 b.2 r.pending (behind own.there own.held) (behind b.1 own.held) refl refl own.alike
-    (subst (λ (x : List LexEvent). RawFilled vs (behind own.there own.held) (behind b.1 own.held) x (told b.1 own.held r.settled.emitted)) own.same f)
+    lead-from e v text bytes k h vs t m d r.settled own b.1 b.2 r.pending b.3
 
 -- What the chains promise, by the place.
 pub element-code-leads : (e : Element) (v : Outside) → IsCodeState v → IsCode v → IsLoose (Out v) → CodeFills v → has_mark {U = Url} (Out v) ≡ true → (text bytes : List ℕ)

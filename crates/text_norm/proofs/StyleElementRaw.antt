@@ -11,7 +11,7 @@ use Rattle.place_core.specs.page.Classes.{Class, White, HyphenMinus, Solidus, Le
 use Rattle.place_core.specs.page.Contents.{emits_bang, emits_bang_dash, emits_end_name, emits_in_content, emits_less, emits_loose, is_name_of, may_be_name_of, next_bang, next_end_name, next_in_content, next_less, next_loose}
 use Rattle.place_core.specs.page.Events.{InsideStyle, LexEvent, told_in_style}
 use Rattle.place_core.specs.page.Html.{byte_over, read}
-use Rattle.place_core.specs.page.States.{Config, InLanguage, LessAtCut, LexState, Nothing, Page, Pending, PendingBang, PendingBangDash, PendingLess, PendingName, config}
+use Rattle.place_core.specs.page.States.{Config, InLanguage, LessAtCut, LexState, Nothing, Page, Pending, PendingBang, PendingBangDash, PendingLess, PendingName, config, PendingOpening}
 use Rattle.place_core.specs.page.Tags.{OfStyle, ValueState, emits_fed, fed_state, languages}
 use Rattle.place_core.specs.place.Errors.{node, refusal_from, nothing_read}
 use Rattle.place_core.specs.declared.element.Element.{Element}
@@ -95,6 +95,7 @@ content-byte e LessAtCut c b blank u p = inl (loose-same e c b blank [] u)
 content-byte e (PendingName letters) c b blank u p = name-byte e (may_be_name_of e (letters ++ b ∷ [])) (is_name_of e letters) c b letters blank u
 content-byte e PendingBang c b blank u p = bang-byte e c b blank u
 content-byte e PendingBangDash c b blank u p = dash-byte e c b blank u
+content-byte e (PendingOpening letters) c b blank u p = inl (loose-same e c b blank letters u)
 
 -- and bytes
 held-byte : (b : ℕ) (d s : Config ValueState) → SolidusHeld d s → SameOrHeld (byte_over languages Page b d) (byte_over languages Page b s)
@@ -145,8 +146,8 @@ less-on e c b v u k n = refl
 
 less-held : (e : Element) (b : ℕ) (d s : Config ValueState) → (b == 47) ≡ false → LessPending e d s → byte_over languages Page b d ≡ byte_over languages Page b s
 less-held e b d s n h =
-    ap (byte_over languages Page b) h.raw ∙ less-on e (class_of b) b h.there h.told refl n
-    ∙ ap (λ (v : ValueState). LooseFrom (class_of b) b e v (languages.emits h.there 60 h.told)) h.leads
+    ap (byte_over languages Page b) h.raw ∙ less-on e (class_of b) b (OfStyle h.there) h.told refl n
+    ∙ ap (λ (v : ValueState). LooseFrom (class_of b) b e v (languages.emits (OfStyle h.there) 60 h.told)) h.leads
     ∙ ap (byte_over languages Page b) (sym h.is_settled)
 
 -- So bytes that begin well lead both to the same, or hold more back.

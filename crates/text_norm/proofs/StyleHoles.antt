@@ -29,7 +29,7 @@ use Rattle.place_core.specs.page.Html.{emits_value, ends_value, next_value, read
 use Rattle.place_core.specs.page.Plain.{HasBytes, IsPlain, IsPlainInState, in_plain_value}
 use Rattle.place_core.specs.page.References.{Form, Begun, Named, Hashed, Decimal, HexMark, Hexadecimal, Reference, Closed, Open, ReferenceRow, ReferenceStep, Grows, Closes, Breaks, flushed, flushed_name, meaning, plain_bytes, reference_turned, settled, short_names, turn, turn_bytes, whole_in}
 use Rattle.place_core.specs.page.States.{AttributeValue, BeforeAttributeValue, Config, InContent, InLanguage, LexState, Page, config}
-use Rattle.place_core.specs.page.Tags.{DoubleQuoted, LeadsPlainInStyle, OfKind, OfStyle, OfUrl, Quoting, SingleQuoted, Tag, Unquoted, Value, ValueOf, ValueState, emitted_bytes, emitted_end, emits_state, end_tag, ends_state, languages, with_bytes, OfScript}
+use Rattle.place_core.specs.page.Tags.{DoubleQuoted, LeadsPlainInStyle, OfKind, OfStyle, OfUrl, Quoting, SingleQuoted, Tag, Unquoted, Value, ValueOf, ValueState, emitted_bytes, emitted_end, emits_state, end_tag, ends_state, languages, with_bytes, OfScript, value_is_script, value_may_end, value_after_cut, feed_value}
 use Rattle.place_core.specs.place.StatePlaces.{quotes_at}
 use Rattle.place_core.specs.place.StyleParts.{style_place}
 use Rattle.place_core.specs.place.UrlParts.{parts_of}
@@ -74,8 +74,8 @@ cons-some a rest e = cc
 abbrev Told : List LexEvent → List LexEvent → Type 0
 Told t u = u ≢ []
 
-abbrev Any : ValueState → ValueState → Type 0
-Any v w = Unit {0}
+abbrev Itself : ValueState → ValueState → Type 0
+Itself v w = v ≡ w
 
 keeps-told : (e : LexEvent) (t u : List LexEvent) → IsOwn e → Told t u → Told (e ∷ t) (e ∷ u)
 keeps-told e t u o f = cons-some e u
@@ -100,20 +100,26 @@ end-told (OfUrl u) t n = cons-some _ t
 end-told (OfStyle s) t n = style-told _ t n
 end-told (OfScript s) t n = script-told _ t n
 
-told-emits : EmitsAlike ValueState languages Any Told
+told-emits : EmitsAlike ValueState languages Itself Told
 told-emits = record {
-  fed = record { starts = λ k. tt; feeds = λ v w b a. tt; cuts = λ v w a. tt };
+  fed = record {
+    starts = λ k. refl;
+    feeds = λ v w b a. ap (λ (z : ValueState). feed_value z b) a;
+    cuts = λ v w a. ap value_after_cut a;
+    scripts = λ v w a. ap value_is_script a;
+    may_ends = λ v w a. ap value_may_end a;
+  };
   emits = λ v w b t u a n. state-told w b u n;
   ends = λ v w t u a n. end-told w u n;
 }
 
-beside-itself : (s : LexState ValueState) → StandBeside Any s s
-beside-itself (AttributeValue q tag (ValueOf v) r) = (v, refl, tt)
-beside-itself (InContent e (InLanguage v) h) = (v, refl, tt)
+beside-itself : (s : LexState ValueState) → StandBeside Itself s s
+beside-itself (AttributeValue q tag (ValueOf v) r) = (v, refl, refl)
+beside-itself (InContent e (InLanguage v) h) = (v, refl, refl)
 beside-itself _ = refl
 
 stays-told : (bytes : List ℕ) (s : LexState ValueState) (t : List LexEvent) → t ≢ [] → (read Page bytes (config s t)).emitted ≢ []
-stays-told bytes s t n = (over-alike Told keeps-told ValueState languages Any told-emits Page bytes (config s t) (config s t) (beside-itself s) n).1
+stays-told bytes s t n = (over-alike Told keeps-told ValueState languages Itself told-emits Page bytes (config s t) (config s t) (beside-itself s) n).1
 
 -- what a reference tells
 encode-some : (c : ℕ) → encode_utf8 c ≢ []

@@ -10,7 +10,7 @@ use Rattle.css_lexer.specs.declared.class.StyleClass.TheVariants as class
 use Rattle.css_step.specs.StyleScans.{StyleScan, ScanSolidus, ScanComment, ScanStarBefore, style_scan_next}
 use Rattle.html_scan.specs.Scans.{style_feeding}
 use Rattle.place_core.specs.page.Contents.{pending_bytes}
-use Rattle.place_core.specs.page.States.{Pending, Nothing, PendingLess, LessAtCut, PendingName, PendingBang, PendingBangDash}
+use Rattle.place_core.specs.page.States.{Pending, Nothing, PendingLess, LessAtCut, PendingName, PendingBang, PendingBangDash, PendingOpening}
 use Rattle.place_core.specs.page.Tags.{feed_bytes}
 use Rattle.text_norm.proofs.StyleScanWaits.{ScanOpens, scan-opens-or-not, scan-waits}
 use Rattle.text_norm.proofs.StyleWaits.{NoStars, end-tag-no-stars, is_star, less-class}
@@ -119,6 +119,7 @@ fed-pending (PendingName letters) comment s i n = fed-less comment s (47 ∷ let
 fed-pending LessAtCut comment s i n = absurd i
 fed-pending PendingBang comment s i n = absurd i
 fed-pending PendingBangDash comment s i n = absurd i
+fed-pending (PendingOpening letters) comment s i n = absurd i
 
 -- what is written where the text ends
 pub cut-behind : (bs : List ℕ) (s : StyleScan) → NoStars bs → is_style_comment s ≡ false → wrote s bs ++ style_scan_cut_out (fed s bs) ≡ solidus_kept s ++ bs

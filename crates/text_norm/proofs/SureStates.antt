@@ -13,7 +13,7 @@ use Rattle.js_lexer.specs.Feeding.{script_emits, script_ends}
 use Rattle.place_core.specs.page.Events.{InsideScript, LexEvent, ValueByte, told_in_script, told_in_style}
 use Rattle.place_core.specs.page.Paths.{read_node}
 use Rattle.place_core.specs.page.States.{Config, LexState, config}
-use Rattle.place_core.specs.page.Tags.{ValueState, OfKind, OfUrl, OfStyle, OfScript, emits_state, ends_state, feed_value, languages, value_after_cut, value_start}
+use Rattle.place_core.specs.page.Tags.{ValueState, OfKind, OfUrl, OfStyle, OfScript, emits_state, ends_state, feed_value, languages, value_after_cut, value_start, value_is_script, value_may_end}
 use Rattle.place_core.specs.declared.kind.Kind.{Kind}
 use Rattle.place_core.specs.declared.kind.Kind.TheVariants as kind
 use Rattle.text_norm.proofs.EmittedAlike.{EmitsAlike, IsOwn, node-alike}
@@ -169,8 +169,22 @@ sure-cuts (OfUrl u) _ a = absurd a
 sure-cuts (OfScript s) w a = ap value_after_cut a
 sure-cuts (OfStyle s) w a = (ap value_after_cut a.0, bound-cut s a.1)
 
+sure-scripts : (v w : ValueState) → SureBeside v w → value_is_script v ≡ value_is_script w
+sure-scripts (OfKind k) w a = sym (ap value_is_script a)
+sure-scripts (OfUrl u) (OfUrl w) a = refl
+sure-scripts (OfUrl u) _ a = absurd a
+sure-scripts (OfScript s) w a = sym (ap value_is_script a)
+sure-scripts (OfStyle s) w a = sym (ap value_is_script a.0)
+
+sure-may-end : (v w : ValueState) → SureBeside v w → value_may_end v ≡ value_may_end w
+sure-may-end (OfKind k) w a = sym (ap value_may_end a)
+sure-may-end (OfUrl u) (OfUrl w) a = refl
+sure-may-end (OfUrl u) _ a = absurd a
+sure-may-end (OfScript s) w a = sym (ap value_may_end a)
+sure-may-end (OfStyle s) w a = sym (ap value_may_end a.0)
+
 pub sure-fed : IsFedAlike ValueState languages SureBeside
-sure-fed = record { starts = sure-starts; feeds = sure-feeds; cuts = sure-cuts }
+sure-fed = record { starts = sure-starts; feeds = sure-feeds; cuts = sure-cuts; scripts = sure-scripts; may_ends = sure-may-end }
 
 -- What a style tells that no hole has met, in a relation that its events keep.
 module _ (F : List LexEvent → List LexEvent → Type 0) (keep : (e : LexEvent) (t u : List LexEvent) → IsOwn e → F t u → F (e ∷ t) (e ∷ u))

@@ -4,7 +4,7 @@ use Rattle.std.proofs.Common.{◌≡◌, ℕ, ◌+◌, ◌-◌, Bool, true, fals
 use Rattle.std.specs.Prelude.{⊤}
 use Rattle.std.proofs.lemmas.List.{append-nil, append_assoc}
 use Rattle.place_core.specs.page.Classes.{Class, White, QuotationMark, Ampersand, Apostrophe, GreaterThan, class_of, is_equals_sign}
-use Rattle.place_core.specs.place.Errors.{PathCause, cause_back, content_error, ending_tag, fed_error, first_byte_error, first_cause, language_error, name_error, is_unknown_name, turned_error}
+use Rattle.place_core.specs.place.Errors.{PathCause, cause_back, fed_error, first_byte_error, first_cause, language_error, name_error, is_unknown_name, turned_error}
 use Rattle.place_core.specs.page.Events.{LexEvent, TagEnds}
 use Rattle.place_core.specs.page.Html.{ends_value, next_after_value, next_before_value, next_value, emits_after_value, emits_before_value, emits_value}
 use Rattle.place_core.specs.page.References.{Form, Begun, Reference, Closed, Open, ReferenceStep, Grows, Closes, Breaks, flushed, meaning, next_reference, plain_bytes, settled, turn, turn_bytes, undone_byte, as_it_stands}
@@ -20,7 +20,7 @@ use Rattle.text_norm.specs.ValueLaws.{ValueLanguageLaws}
 use Rattle.text_norm.specs.Written.{reference_out, text_escaped, value_out}
 use Rattle.text_norm.proofs.Places.{value-run, value-since}
 use Rattle.text_norm.proofs.Runs.{amp-read, class_amp, follows-run, on}
-use Rattle.text_norm.proofs.TagsKeep.{before-leads, tag-leads, without-value}
+use Rattle.text_norm.proofs.TagsKeep.{before-leads, tag-leads}
 
 -- The state of a language after bytes, and that it refuses none of them.
 abbrev pub fed : {B : Type 0} → ValueLanguage B → B → List ℕ → B
@@ -146,11 +146,10 @@ pub at-end : {B : Type 0} (x : ValueLanguage B) (q : Quoting) (tag : Tag) (v : V
 at-end x q tag v Closed c b t d e s h = ap (page x (b ∷ [])) h ∙ rw (e, s) refl
 at-end x q tag v (Open f bytes) c b t d e s h = on x (38 ∷ bytes) (b ∷ []) d _ h.as_is ∙ rw (e, s) refl
 
-after-end : (q : Quoting) (tag : Tag) (c : Class) (b : ℕ) (u : List LexEvent) (d : Config ValueState) → (q ≡ Unquoted → c ≡ GreaterThan → content_error tag.tag ≡ None)
-    → d ≡ config (next_after_value languages q c b tag) u → TextStands languages (next_after_value languages q c b tag) u d
-after-end DoubleQuoted tag c b u d n h = h
-after-end SingleQuoted tag c b u d n h = h
-after-end Unquoted tag c b u d n h = before-leads tag c b u d (n refl) h
+after-end : (q : Quoting) (tag : Tag) (c : Class) (b : ℕ) (u : List LexEvent) (d : Config ValueState) → d ≡ config (next_after_value languages q c b tag) u → TextStands languages (next_after_value languages q c b tag) u d
+after-end DoubleQuoted tag c b u d h = h
+after-end SingleQuoted tag c b u d h = h
+after-end Unquoted tag c b u d h = before-leads tag c b u d h
 
 -- the page comes to the path's state, and has told the same
 ends-alike : {B : Type 0} {x : ValueLanguage B} → ValueLanguageLaws B x → (q : Quoting) (tag : Tag) (v : B) (r : Reference) (c : Class) (b : ℕ) (t : List LexEvent) (d : Config B) → class_of b ≡ c
@@ -162,32 +161,28 @@ ends-alike {B} {x} l q tag v r c b t d e s k h =
     ∙ ap (λ (y : Tag). config (next_after_value x q c b y) (emits_value x true q c b (ValueOf w) r t)) (own-tag x tag w (settled true r))
     ∙ ap (λ (y : List LexEvent). config (next_after_value x q c b tag) (emits_after_value q c b y)) (alike-end l (settled true r) v w t h.alike k)
 
--- what is known of the tag at whose end it is
-abbrev IsBuilt : {B : Type 0} → ValueLanguage B → Quoting → Class → Tag → Value B → Reference → Type 0
-IsBuilt x q c tag v r = q ≡ Unquoted → c ≡ GreaterThan → content_error (ending_tag x tag v r).tag ≡ None
-
 ends-there : ValueLanguageLaws ValueState languages → (q : Quoting) (tag : Tag) (v : Value ValueState) (r : Reference) (c : Class) (b : ℕ) (t : List LexEvent) (d : Config ValueState) → class_of b ≡ c
-    → ends_value q c ≡ true → language_error (feeding languages) true v r c b ≡ None → IsBuilt languages q c tag v r → StandsInValue languages q tag v r t d
+    → ends_value q c ≡ true → language_error (feeding languages) true v r c b ≡ None → StandsInValue languages q tag v r t d
     → TextStands languages (next_value languages true q c b tag v r) (emits_value languages true q c b v r t) (page languages (as_it_stands r ++ b ∷ []) d)
-ends-there l q tag (ValueOf v) r c b t d e s k n h =
+ends-there l q tag (ValueOf v) r c b t d e s k h =
     let u = emits_value languages true q c b (ValueOf v) r t in
     subst (λ (y : Tag). TextStands languages (next_after_value languages q c b y) u (page languages (as_it_stands r ++ b ∷ []) d)) (sym (own-tag languages tag v (settled true r)))
-    (after-end q tag c b u (page languages (as_it_stands r ++ b ∷ []) d) (λ f g. ap (λ (y : Tag). content_error y.tag) (sym (own-tag languages tag v (settled true r))) ∙ n f g)
+    (after-end q tag c b u (page languages (as_it_stands r ++ b ∷ []) d)
     (ends-alike l q tag v r c b t d e s (taken-end languages v r c b k) h))
-ends-there l q tag (Deciding j before) r c b t d e s k n h =
+ends-there l q tag (Deciding j before) r c b t d e s k h =
     let z = with_bytes languages (Deciding j before) (settled true r) in
-    after-end q (tag_with_value tag z) c b (emits_value languages true q c b (Deciding j before) r t) (page languages (as_it_stands r ++ b ∷ []) d) n (at-end languages q tag (Deciding j before) r c b t d e s h)
+    after-end q (tag_with_value tag z) c b (emits_value languages true q c b (Deciding j before) r t) (page languages (as_it_stands r ++ b ∷ []) d) (at-end languages q tag (Deciding j before) r c b t d e s h)
 
 in-value-by : ValueLanguageLaws ValueState languages → (ends : Bool) (q : Quoting) (tag : Tag) (v : Value ValueState) (r : Reference) (c : Class) (b : ℕ) (t : List LexEvent) (d : Config ValueState) → class_of b ≡ c
-    → ends_value q c ≡ ends → language_error (feeding languages) ends v r c b ≡ None → IsBuilt languages q c tag v r → StandsInValue languages q tag v r t d
+    → ends_value q c ≡ ends → language_error (feeding languages) ends v r c b ≡ None → StandsInValue languages q tag v r t d
     → TextStands languages (next_value languages ends q c b tag v r) (emits_value languages ends q c b v r t) (page languages (value_out ends c b r) d)
-in-value-by l true q tag v r c b t d e s k n h = ends-there l q tag v r c b t d e s k n h
-in-value-by l false q tag v r c b t d e s k n h = goes-on l q tag v r c b t d e s k h
+in-value-by l true q tag v r c b t d e s k h = ends-there l q tag v r c b t d e s k h
+in-value-by l false q tag v r c b t d e s k h = goes-on l q tag v r c b t d e s k h
 
 pub in-value : ValueLanguageLaws ValueState languages → (q : Quoting) (tag : Tag) (v : Value ValueState) (r : Reference) (c : Class) (b : ℕ) (t : List LexEvent) (d : Config ValueState) → class_of b ≡ c
-    → language_error (feeding languages) (ends_value q c) v r c b ≡ None → (q ≡ Unquoted → c ≡ GreaterThan → content_error (ending_tag languages tag v r).tag ≡ None) → StandsInValue languages q tag v r t d
+    → language_error (feeding languages) (ends_value q c) v r c b ≡ None → StandsInValue languages q tag v r t d
     → TextStands languages (next_value languages (ends_value q c) q c b tag v r) (emits_value languages (ends_value q c) q c b v r t) (page languages (value_out (ends_value q c) c b r) d)
-in-value l q tag v r c b t d e k n h = in-value-by l (ends_value q c) q tag v r c b t d e refl k n h
+in-value l q tag v r c b t d e k h = in-value-by l (ends_value q c) q tag v r c b t d e refl k h
 
 -- the end of a node, where nothing of the value is refused, nor that it ends there
 pub cut-alike : {B : Type 0} {x : ValueLanguage B} → ValueLanguageLaws B x → (q : Quoting) (tag : Tag) (v : B) (r : Reference) (t : List LexEvent) (d : Config B) → AreTaken x v (as_it_stands r)
@@ -236,15 +231,15 @@ unquoted-amp x tag k t d h = record {
 }
 
 pub before-value : ValueLanguageLaws ValueState languages → (tag : Tag) (k : Kind) (c : Class) (b : ℕ) (t : List LexEvent) (d : Config ValueState) → class_of b ≡ c
-    → first_byte_error (feeding languages) (attribute_value_of languages k) c b ≡ None → (c ≡ GreaterThan → content_error tag.tag ≡ None) → d ≡ config (BeforeAttributeValue tag k) t
+    → first_byte_error (feeding languages) (attribute_value_of languages k) c b ≡ None → d ≡ config (BeforeAttributeValue tag k) t
     → TextStands languages (next_before_value languages c b tag k) (emits_before_value languages c b k t) (page languages (reference_out Closed c b) d)
-before-value l tag k White b t d e o n h = rw (h, e) refl
-before-value l tag k QuotationMark b t d e o n h = begun-there l DoubleQuoted tag k Closed t (page languages (b ∷ []) d) (rw (h, e) refl)
-before-value l tag k Apostrophe b t d e o n h = begun-there l SingleQuoted tag k Closed t (page languages (b ∷ []) d) (rw (h, e) refl)
-before-value l tag k GreaterThan b t d e o n h =
-    tag-leads (without_value tag k).tag (TagEnds false ∷ emitted_end languages (attribute_value_of languages k) t) (page languages (b ∷ []) d) (without-value tag k (n refl)) (rw (h, e) refl)
-before-value l tag k Ampersand b t d e o n h = begun-there l Unquoted tag k (Open Begun []) t d (unquoted-amp languages tag k t d h)
-before-value l tag k c b t d e o n h =
+before-value l tag k White b t d e o h = rw (h, e) refl
+before-value l tag k QuotationMark b t d e o h = begun-there l DoubleQuoted tag k Closed t (page languages (b ∷ []) d) (rw (h, e) refl)
+before-value l tag k Apostrophe b t d e o h = begun-there l SingleQuoted tag k Closed t (page languages (b ∷ []) d) (rw (h, e) refl)
+before-value l tag k GreaterThan b t d e o h =
+    tag-leads (without_value tag k).tag (TagEnds false ∷ emitted_end languages (attribute_value_of languages k) t) (page languages (b ∷ []) d) (rw (h, e) refl)
+before-value l tag k Ampersand b t d e o h = begun-there l Unquoted tag k (Open Begun []) t d (unquoted-amp languages tag k t d h)
+before-value l tag k c b t d e o h =
     let v = attribute_value_of languages k in
     let from = config (AttributeValue Unquoted tag v Closed) t in
     subst (λ (z : Config ValueState). TextStands languages (next_value languages false Unquoted c b tag v Closed) (emits_value languages false Unquoted c b v Closed t) z)

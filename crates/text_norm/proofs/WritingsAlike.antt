@@ -3,7 +3,7 @@
 use Rattle.std.proofs.Common.{◌≡◌, ℕ, ◌-◌, Bool, true, false, codes, length, List, [], ◌∷◌, ◌++◌, None, refl, ap, ap₂}
 use Rattle.place_core.specs.page.Classes.{Class, White, Solidus, LessThan, GreaterThan, Letter}
 use Rattle.place_core.specs.page.Contents.{is_name_of, may_be_name_of, pending_bytes}
-use Rattle.place_core.specs.page.States.{Pending, Nothing, PendingLess, LessAtCut, PendingName, PendingBang, PendingBangDash}
+use Rattle.place_core.specs.page.States.{Pending, Nothing, PendingLess, LessAtCut, PendingName, PendingBang, PendingBangDash, PendingOpening}
 use Rattle.place_core.specs.page.Tags.{feed_bytes}
 use Rattle.place_core.specs.place.Errors.{cause_back, content_byte_error, end_name_error, fed_error, less_error, loose_byte_error, pending_error, released_error}
 use Rattle.place_core.specs.declared.element.Element.{Element}
@@ -73,6 +73,7 @@ content-same a e (PendingName letters) c b s t r k =
     name-same a (may_be_name_of e (letters ++ b ∷ [])) (is_name_of e letters) c b letters s t r k
 content-same a e PendingBang c b s t r k = behind-same a (codes "<!") c b s t r k
 content-same a e PendingBangDash c b s t r k = behind-same a (codes "<!-") c b s t r k
+content-same a e (PendingOpening letters) c b s t r k = behind-same a (codes "<" ++ letters) c b s t r k
 
 -- and the end of a text
 pub content-cut-same : {S T : Type 0} {w : ContentWriting S} {x : ContentWriting T} {R : S → T → Type 0} → WritesAlike w x R

@@ -37,7 +37,7 @@ use Rattle.url_lexer.specs.States.{Url}
 -- where a mark stands: in text, a title or a textarea; in a data block; in a value between quotes, or without them; as the name of an
 -- attribute; in a value that is a URL, by how it is written and the part of the URL; in a value that is a style: in words and plain text, in
 -- a string of it, by its quotes, or in a URL of it; or in a value that is a script: in its code, in a string of it, between quotation marks (true)
--- or apostrophes (false), or in a regular expression of it. In the element of a style a value stands as in a style between quotes: it may be empty.
+-- or apostrophes (false), or in a regular expression of it. In the element of a style or a script a value stands as in one between quotes: it may be empty.
 pub data MarkSite : Type 0 where
   TextSite : MarkSite
   BlockSite : MarkSite

@@ -35,7 +35,7 @@ abbrev pub Alone : List San → Type 0 → Type 0
 Alone [] promise = promise
 Alone (y ∷ ys) promise = ⊥
 
--- one of a sanitizer that has one behind it, which is the last, or none, as in the element of a style (`alone`); and of one that has `url_norm` behind
+-- one of a sanitizer that has one behind it, which is the last, or none, as in the element of a style or a script (`alone`); and of one that has `url_norm` behind
 -- it before that
 abbrev pub BeforeLast : List San → (alone : Type 0) → (San → Type 0) → Type 0
 BeforeLast [] alone Promise = alone
@@ -72,7 +72,7 @@ pub record IsBackInLanguage (IsBackThere : List ℕ → Type 0) (last : San) (by
   pub as_they_are : read_as_text characters ≡ characters
   pub written : IsBackByLast last characters bytes
 
--- In the element of a style the bytes themselves are so; and no end tag begins with one of them.
+-- In the element of a style or a script the bytes themselves are so; and no end tag begins with one of them.
 abbrev pub is_less_than : ℕ → Bool
 is_less_than b = b == 60
 
@@ -114,10 +114,12 @@ IsBackByFirst san.CssValue behind datum bytes =
     BeforeLast behind (IsBackInElement (IsBackInCode urls (printed datum)) bytes) (λ last. IsBackInLanguage (IsBackInCode urls (printed datum)) last bytes)
 IsBackByFirst san.CssString behind datum bytes =
     BeforeLast behind (IsBackInElement (IsBackInString urls (printed datum)) bytes) (λ last. IsBackInLanguage (IsBackInString urls (printed datum)) last bytes)
--- in a script, where a value of an attribute is one
-IsBackByFirst san.JsValue behind datum bytes = BeforeLast behind ⊥ (λ last. IsBackInLanguage (IsBackInScriptCode datum) last bytes)
-IsBackByFirst san.JsString behind datum bytes = BeforeLast behind ⊥ (λ last. IsBackInLanguage (IsBackInScriptString (printed datum)) last bytes)
-IsBackByFirst san.JsRegexp behind datum bytes = BeforeLast behind ⊥ (λ last. IsBackInLanguage (IsBackInScriptRegexp (printed datum)) last bytes)
+IsBackByFirst san.JsValue behind datum bytes =
+    BeforeLast behind (IsBackInElement (IsBackInScriptCode datum) bytes) (λ last. IsBackInLanguage (IsBackInScriptCode datum) last bytes)
+IsBackByFirst san.JsString behind datum bytes =
+    BeforeLast behind (IsBackInElement (IsBackInScriptString (printed datum)) bytes) (λ last. IsBackInLanguage (IsBackInScriptString (printed datum)) last bytes)
+IsBackByFirst san.JsRegexp behind datum bytes =
+    BeforeLast behind (IsBackInElement (IsBackInScriptRegexp (printed datum)) bytes) (λ last. IsBackInLanguage (IsBackInScriptRegexp (printed datum)) last bytes)
 
 abbrev pub IsBackByList : List San → Data → List ℕ → Type 0
 IsBackByList [] datum bytes = ⊥

@@ -1,19 +1,23 @@
 -- What is pending back of a text that has been read to a scan state, and what becomes of it at a byte.
-use Rattle.std.specs.Prelude.{ℕ, ◌+◌, ◌-◌, ◌≤◌, Bool, true, false, ◌≡◌, codes, List, [], ◌++◌, length, get_or, Option, IfSome, IsSomeAnd, ◌⊎◌}
+use Rattle.std.specs.Prelude.{ℕ, nat_lt, ◌+◌, ◌-◌, ◌≤◌, ◌||◌, if◌then◌else◌, Bool, true, false, ◌≡◌, codes, List, [], ◌++◌, length, get_or, Option, IfSome, IsSomeAnd, ◌⊎◌}
 use Rattle.std.specs.Char.{is_ascii_alphabetic}
 use Rattle.std.specs.List.{list_all}
 use Rattle.std.specs.Str.{IsCharBoundary}
 use Rattle.css_step.specs.StyleScans.{StyleScan, ScanSolidus, ScanComment, ScanStarBefore}
+use Rattle.js_lexer.specs.States.{ScriptState}
+use Rattle.js_lexer.specs.Written.{is_block, is_line, is_outside, waiting_slash}
+use Rattle.js_step.specs.ScriptScans.{script_scan_start, script_shared}
 use Rattle.place_core.specs.page.Classes.{Class, Ampersand, class_of}
 use Rattle.place_core.specs.page.Contents.{pending_bytes}
 use Rattle.place_core.specs.page.References.{Reference, Closed, as_it_stands, next_reference}
 use Rattle.place_core.specs.page.States.{Pending, Nothing, PendingLess, PendingName}
 use Rattle.place_core.specs.declared.css.Css.TheVariants as css
 use Rattle.place_core.specs.declared.element.Element.{Element}
+use Rattle.place_core.specs.declared.js.Js.{Js}
 use Rattle.place_core.specs.declared.element.Element.TheVariants as element
 use Rattle.place_core.specs.declared.place.Place.{Place}
 use Rattle.place_core.specs.declared.place.Place.TheVariants as place
-use Rattle.html_scan.specs.Scans.{Scan, At, AfterLess, AfterLessSolidus, InDeclaration, InTagName, InAttributeName, InCommentEnd, InContentEnd, InStyleElement, InUrl, InStyle, InScript, BeforeType, InType, scan_next}
+use Rattle.html_scan.specs.Scans.{Scan, At, AfterLess, AfterLessSolidus, InDeclaration, InTagName, InAttributeName, InCommentEnd, InContentEnd, InStyleElement, InScriptElement, InUrl, InStyle, InScript, BeforeType, InType, scan_next}
 use Rattle.html_scan.specs.ScanViews.{scan_at, pending_from}
 use Rattle.html_scan.specs.Slices.{pending}
 use Rattle.text_norm.specs.Scanned.{rcdata_open, scan_open, scan_out}
@@ -41,6 +45,13 @@ abbrev pub solidus_kept : StyleScan → List ℕ
 solidus_kept ScanSolidus = codes "/"
 solidus_kept s = []
 
+-- In a script, a slash that may begin a comment; in a line comment what may be the end of the line; and then what may be its end tag, or a word of a token.
+abbrev pub held_in_line : ScriptState → List ℕ
+held_in_line s = if is_outside is_line s then s.held else []
+
+abbrev pub script_kept : ScriptState → Pending → List ℕ
+script_kept s h = waiting_slash s ++ (held_in_line s ++ pending_bytes h)
+
 abbrev pub less_kept : Scan → List ℕ
 less_kept (At p) = []
 less_kept AfterLess = codes "<"
@@ -51,6 +62,7 @@ less_kept (InAttributeName t typed name) = []
 less_kept (InCommentEnd s) = []
 less_kept (InContentEnd e h) = content_less e h
 less_kept (InStyleElement s h) = solidus_kept s ++ pending_bytes h
+less_kept (InScriptElement n h) = script_kept (script_shared n) h
 less_kept (InUrl v t z) = []
 less_kept (InStyle v s z) = []
 less_kept (InScript v n z) = []
@@ -95,9 +107,18 @@ in_style_comment (At p) = style_place_comment p
 in_style_comment (InStyleElement s h) = is_style_comment s
 in_style_comment f = false
 
--- in a comment, nothing is pending back; but in one of a style what may be its end tag is
+-- in a comment of a script
+abbrev pub is_script_comment : ScriptState → Bool
+is_script_comment s = is_outside is_line s || is_outside is_block s
+
+abbrev pub script_place_comment : Js → Bool
+script_place_comment j = is_script_comment (script_shared (script_scan_start j))
+
+-- In a comment no byte is free, and nothing is pending back; but in one of a style what may be its end tag is, and in one of a script that too, and what may
+-- end its line.
 abbrev pub place_hides : Place → Bool
 place_hides (place.Comment dash) = true
+place_hides (place.Script j) = script_place_comment j
 place_hides p = style_place_comment p
 
 abbrev pub loose_hides : Pending → StyleScan → Bool
@@ -108,7 +129,14 @@ abbrev pub hides : Scan → Bool
 hides (At p) = place_hides p
 hides (InCommentEnd s) = true
 hides (InStyleElement s h) = loose_hides h s
+hides (InScriptElement n h) = is_script_comment (script_shared n)
 hides f = false
+
+-- in a script in its element
+abbrev pub is_in_script : Scan → Bool
+is_in_script (At (place.Script j)) = true
+is_in_script (InScriptElement n h) = true
+is_in_script f = false
 
 -- the letters of what may be the end tag of a style
 abbrev pub end_letters : Scan → List ℕ
@@ -159,7 +187,9 @@ style_change before g = end_tag_change before
 
 abbrev pub change_of : Scan → Scan → Change
 change_of (At (place.Comment dash)) g = change.LeavesOut
+change_of (At (place.Script j)) g = change.InScript
 change_of (At (place.Style p)) g = style_change (style_place_comment (place.Style p)) g
+change_of (InScriptElement n h) g = change.InScript
 change_of (InStyleElement s h) g = style_change (is_style_comment s) g
 change_of (InCommentEnd s) g = change.LeavesOut
 change_of AfterLess g = less_change g
@@ -184,7 +214,9 @@ style_ending false = ending.InStyle
 
 abbrev pub ending_of : Scan → Ending
 ending_of (At (place.Comment dash)) = ending.InComment
+ending_of (At (place.Script j)) = ending.InScript
 ending_of (At (place.Style p)) = style_ending (style_place_comment (place.Style p))
+ending_of (InScriptElement n h) = ending.InScript
 ending_of (InStyleElement s h) = style_ending (is_style_comment s)
 ending_of (InCommentEnd s) = ending.InComment
 ending_of AfterLess = ending.BehindLess
@@ -267,10 +299,36 @@ pub record IsProgressKept (text : List ℕ) (index : ℕ) (x : WriteProgress) : 
   pub named : pending_from x.scan ≤ index
   pub done : x.done ≤ index
   pub closed : bears (scan_of text index x) ≡ false → reference_of text x ≡ Closed
-  pub hidden : hides (scan_of text index x) ≡ true → x.done ≡ index
+  pub hidden : hides (scan_of text index x) ≡ true → free ≡ []
   pub alone : in_style_comment (scan_of text index x) ≡ true → free ≡ []
   pub letters : list_all is_ascii_alphabetic (end_letters (scan_of text index x)) ≡ true
   pub cut : hides (scan_of text index x) ≡ false → IsCharBoundary text x.done
+
+-- Of a script in its element, without what may be its end tag or a word of a token: what has been read by it, and has not been written.
+abbrev pub script_waits : ScriptState → List ℕ
+script_waits s = waiting_slash s ++ held_in_line s
+
+-- how many bytes the end of a line has, by its last one
+abbrev pub line_end_length_of : ℕ → ℕ
+line_end_length_of b = if nat_lt b 128 then 1 else 3
+
+pub record IsScriptKept (text : List ℕ) (index : ℕ) (s : ScriptState) (done : ℕ) : Type 0 where
+  pub free : List ℕ
+  pub parts : free ++ script_waits s ≡ pending text done index
+  pub order : done ≤ index
+  pub hidden : is_script_comment s ≡ true → free ≡ []
+  pub cut : is_script_comment s ≡ false → IsCharBoundary text done
+
+-- The script has read up to a place, and these bytes were written for what it has read.
+pub record ScriptReadsOn (text : List ℕ) (index : ℕ) (s : ScriptState) (done : ℕ) (free written old new : List ℕ) : Type 0 where
+  pub kept : IsScriptKept text index s done
+  pub bytes : new ++ kept.free ≡ old ++ (free ++ written)
+
+-- Before its end tag, which stands from a place on.
+pub record ScriptEnds (text : List ℕ) (index done : ℕ) (free written old new : List ℕ) : Type 0 where
+  pub order : done ≤ index
+  pub bytes : new ++ pending text done index ≡ old ++ (free ++ written)
+  pub cut : IsCharBoundary text done
 
 -- A byte is read, and this was written for it.
 pub record ProgressReads (text : List ℕ) (index : ℕ) (x y : WriteProgress) (free old new : List ℕ) : Type 0 where

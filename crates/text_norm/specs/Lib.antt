@@ -2,6 +2,7 @@ pub mod FilledReadings
 pub mod FillingLaws
 pub mod Fillings
 pub mod HoleLaws
+pub mod InScripts
 pub mod Kept
 pub mod Laws
 pub mod Pieces

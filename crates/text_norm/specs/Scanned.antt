@@ -5,16 +5,18 @@ use Rattle.css_lexer.specs.Written.{written_behind_solidus, written_byte, writte
 use Rattle.css_lexer.specs.declared.class.StyleClass.{StyleClass}
 use Rattle.css_lexer.specs.declared.class.StyleClass.TheVariants as style
 use Rattle.css_step.specs.StyleScans.{StyleScan, ScanCode, ScanWord, ScanSplitEscape, ScanSolidus, ScanLessThan, ScanComment, ScanStarBefore, style_scan_start}
+use Rattle.js_lexer.specs.Written.{script_hides, script_written, script_written_at_cut}
+use Rattle.js_step.specs.ScriptScans.{ScriptScan, script_scan_start, script_shared}
 use Rattle.place_core.specs.page.Classes.{Class, ExclamationMark, Solidus, LessThan, class_of}
 use Rattle.place_core.specs.page.Comments.{Declaration, Undecided, OpensNothing, declared_by}
 use Rattle.place_core.specs.page.References.{Reference, Closed, as_it_stands, begin_reference, next_reference}
-use Rattle.place_core.specs.page.States.{Pending}
+use Rattle.place_core.specs.page.States.{Pending, Nothing}
 use Rattle.place_core.specs.declared.element.Element.{Element}
 use Rattle.place_core.specs.declared.element.Element.TheVariants as element
 use Rattle.place_core.specs.declared.place.Place.{Place}
 use Rattle.place_core.specs.declared.place.Place.TheVariants as place
-use Rattle.html_scan.specs.Scans.{Scan, At, AfterLess, AfterLessSolidus, InDeclaration, InTagName, InAttributeName, InCommentEnd, InContentEnd, InStyleElement, InUrl, InStyle, InScript, BeforeType, InType, scan_next, style_feeding}
-use Rattle.text_norm.specs.Written.{ContentWriting, content_cut_out, content_out, declaration_out, language_content_cut_out, language_content_out, language_loose_out, text_escaped, less_out, loose_out, reference_out, solidus_out, text_out}
+use Rattle.html_scan.specs.Scans.{Scan, At, AfterLess, AfterLessSolidus, InDeclaration, InTagName, InAttributeName, InCommentEnd, InContentEnd, InStyleElement, InScriptElement, InUrl, InStyle, InScript, BeforeType, InType, scan_next, script_fed_byte, script_scan_may_end, style_feeding}
+use Rattle.text_norm.specs.Written.{ContentWriting, ScriptWriting, script_cut_out, script_out, content_cut_out, content_out, declaration_out, language_content_cut_out, language_content_out, language_loose_out, text_escaped, less_out, loose_out, reference_out, solidus_out, text_out}
 
 -- the reference that is open after a byte
 abbrev pub text_open : Class → ℕ → Reference → Reference
@@ -56,6 +58,7 @@ scan_open (InAttributeName t typed name) c b r = Closed
 scan_open (InCommentEnd s) c b r = Closed
 scan_open (InContentEnd e h) c b r = content_end_open e c
 scan_open (InStyleElement s h) c b r = Closed
+scan_open (InScriptElement n h) c b r = Closed
 scan_open (InUrl v t z) c b r = next_reference r c b
 scan_open (InStyle v s z) c b r = next_reference r c b
 scan_open (InScript v n z) c b r = next_reference r c b
@@ -86,6 +89,16 @@ style_scan_cut_out s = []
 abbrev pub scan_writing : ContentWriting StyleScan
 scan_writing = record { feeding = style_feeding; byte = λ s b. style_scan_out s (style_class b) b; cut = style_scan_cut_out }
 
+-- a script in its element: as the state says that its paths share
+abbrev pub scripts_writing : ScriptWriting ScriptScan
+scripts_writing = record {
+  feed = script_fed_byte;
+  may_end = script_scan_may_end;
+  byte = λ n b. script_written (script_shared n) b;
+  hides = λ n bytes. script_hides (script_shared n) bytes;
+  cut = λ n. script_written_at_cut (script_shared n);
+}
+
 -- what is written at a byte, and at the end; a data block is written as it stands
 abbrev pub rcdata_out : Element → Class → ℕ → Reference → List ℕ
 rcdata_out element.DataBlock c b r = b ∷ []
@@ -97,6 +110,7 @@ place_out (place.Comment dash) c b r = []
 place_out (place.Rcdata e) c b r = rcdata_out e c b r
 place_out (place.Value v) c b r = reference_out r c b
 place_out (place.Style p) c b r = language_loose_out scan_writing c b (style_scan_start p)
+place_out (place.Script j) c b r = script_out scripts_writing Nothing c b element.Script (script_scan_start j)
 place_out p c b r = b ∷ []
 
 abbrev pub content_end_out : Element → Pending → Class → ℕ → Reference → List ℕ
@@ -113,6 +127,7 @@ scan_out (InAttributeName t typed name) c b r = b ∷ []
 scan_out (InCommentEnd s) c b r = []
 scan_out (InContentEnd e h) c b r = content_end_out e h c b r
 scan_out (InStyleElement s h) c b r = language_content_out scan_writing h c b element.Style s
+scan_out (InScriptElement n h) c b r = script_out scripts_writing h c b element.Script n
 scan_out (InUrl v t z) c b r = reference_out r c b
 scan_out (InStyle v s z) c b r = reference_out r c b
 scan_out (InScript v n z) c b r = reference_out r c b
@@ -125,6 +140,7 @@ content_end_cut_out e h r = content_cut_out h r
 
 abbrev pub place_cut_out : Place → Reference → List ℕ
 place_cut_out (place.Style p) r = style_scan_cut_out (style_scan_start p)
+place_cut_out (place.Script j) r = script_written_at_cut (script_shared (script_scan_start j))
 place_cut_out p r = text_escaped r
 
 abbrev pub scan_cut_out : Scan → Reference → List ℕ
@@ -137,6 +153,7 @@ scan_cut_out (InAttributeName t typed name) r = []
 scan_cut_out (InCommentEnd s) r = []
 scan_cut_out (InContentEnd e h) r = content_end_cut_out e h r
 scan_cut_out (InStyleElement s h) r = language_content_cut_out scan_writing h s
+scan_cut_out (InScriptElement n h) r = script_cut_out scripts_writing h n
 scan_cut_out (InUrl v t z) r = text_escaped r
 scan_cut_out (InStyle v s z) r = text_escaped r
 scan_cut_out (InScript v n z) r = text_escaped r

@@ -1,21 +1,29 @@
 -- Where the lexer of a page stands while a path of a template is read, of whose texts it reads what is written. Where nothing is pending back it
 -- stands where the path does, and has told the same. Where something is pending back it is said what it comes to by that: as it stands, and by
 -- what may be written for it. In a value the page has read the bytes of holes that the path has passed over: so there its state of the language
--- need not be the path's, but is alike. So it is in a style in its element, where the page may also have a `<` pending that the style of the path has
--- read.
-use Rattle.std.specs.Prelude.{⊤, ℕ, Bool, true, false, codes, List, [], ◌∷◌, ◌++◌, ◌≡◌}
+-- need not be the path's, but is alike. So it is in a style and a script in their elements, where the page may also have a `<` pending that the style or the
+-- script of the path has read.
+use Rattle.std.specs.Prelude.{⊤, ℕ, ◌||◌, not, Bool, true, false, codes, List, [], ◌∷◌, ◌++◌, ◌≡◌}
 use Rattle.std.specs.Char.{is_ascii_alphabetic}
 use Rattle.std.specs.List.{list_all}
 use Rattle.css_lexer.specs.States.{Outside, Between, AfterSolidus, Comment, BadUrl, LessThanAtCut, StarAtCut, Style, Out, InUrl}
 use Rattle.css_lexer.specs.Steps.{blank_once}
-use Rattle.place_core.specs.page.Contents.{pending_bytes}
-use Rattle.place_core.specs.page.Events.{LexEvent, event_text_bytes, told_in_style}
+use Rattle.js_lexer.specs.Elements.{script_may_end}
+use Rattle.js_lexer.specs.PageScripts.{ScriptStands, are_behind_less, page_script, read_in_page}
+use Rattle.js_lexer.specs.States.{Code, ScriptState}
+use Rattle.js_lexer.specs.Trails.{is_empty}
+use Rattle.js_lexer.specs.Written.{is_block, is_line, is_outside, waiting_slash}
+use Rattle.js_lexer.specs.declared.sense.Sense.{Sense}
+use Rattle.place_core.specs.page.Classes.{Class, HyphenMinus, class_of}
+use Rattle.place_core.specs.page.Contents.{BeginsWord, Reads, in_word, is_name_of, pending_bytes, script_step}
+use Rattle.place_core.specs.page.Events.{LexEvent, InsideScript, event_text_bytes, told_in_style}
 use Rattle.place_core.specs.page.Html.{read_over}
 use Rattle.place_core.specs.page.References.{Form, Reference, Closed, Open, as_it_stands, settled}
-use Rattle.place_core.specs.page.States.{Page, LexState, Text, TagOpen, EndTagOpen, DeclarationOpen, InComment, BogusComment, InDoctype, TagName, WholeTagName, BeforeAttributeName, AttributeName, WholeAttributeName, AfterAttributeName, BeforeAttributeValue, AttributeValue, AfterAttributeValue, SelfClosingStartTag, Content, Characters, Bytes, InLanguage, Pending, Nothing, PendingLess, LessAtCut, PendingName, InContent, Unread, Config, config}
-use Rattle.place_core.specs.page.Tags.{Tag, tag_named, element_on, Value, ValueOf, Deciding, ValueLanguage, ValueState, OfStyle, Quoting, with_bytes, emitted_bytes, fed_state, emits_fed}
+use Rattle.place_core.specs.page.States.{Page, LexState, Text, TagOpen, EndTagOpen, DeclarationOpen, InComment, BogusComment, InDoctype, TagName, WholeTagName, BeforeAttributeName, AttributeName, WholeAttributeName, AfterAttributeName, BeforeAttributeValue, AttributeValue, AfterAttributeValue, SelfClosingStartTag, Content, Characters, Bytes, InLanguage, Pending, Nothing, PendingLess, LessAtCut, PendingName, PendingBang, PendingBangDash, PendingOpening, InContent, Config, config}
+use Rattle.place_core.specs.page.Tags.{Tag, tag_named, element_on, Value, ValueOf, Deciding, ValueLanguage, ValueState, OfStyle, OfScript, Quoting, with_bytes, emitted_bytes, fed_state, emits_fed}
 use Rattle.place_core.specs.page.Words.{kind_of}
 use Rattle.place_core.specs.declared.element.Element.{Element}
+use Rattle.place_core.specs.declared.element.Element.TheVariants as element
 use Rattle.place_core.specs.declared.kind.Kind.{Kind}
 use Rattle.text_norm.specs.Written.{text_escaped}
 use Rattle.url_lexer.specs.States.{Url}
@@ -99,12 +107,12 @@ ComesToNothing Nothing held s = ⊥
 ComesToNothing h held s = ⊤
 
 pub record StandsInStyleElement (x : ValueLanguage ValueState) (e : Element) (s : Style Url) (h : Pending) (t : List LexEvent) (d : Config ValueState) : Type 0 where
-  pub there : ValueState
+  pub there : Style Url
   pub held : Pending
   pub told : List LexEvent
-  pub at : d ≡ config (in_element e there held) told
-  pub alike : x.AreAlike (OfStyle s) (fed_state x there (pending_bytes held))
-  pub same : emits_fed x there (pending_bytes held) told ≡ t
+  pub at : d ≡ config (in_element e (OfStyle there) held) told
+  pub alike : x.AreAlike (OfStyle s) (fed_state x (OfStyle there) (pending_bytes held))
+  pub same : emits_fed x (OfStyle there) (pending_bytes held) told ≡ t
   pub nothing : ComesToNothing h held s
 
 -- The part of a comment is a space: what the page comes to by it. Behind a `/`, where a comment may begin, that too, and what it comes to by the `/`.
@@ -130,8 +138,8 @@ StandsAtStyle x e (InUrl f u) h t d = StandsInStyleElement x e (InUrl f u) h t d
 -- What may be pending back on a path: nothing, a `<`, and `</` with letters, with which an end tag has begun in any style.
 pub record EndTagBegun (x : ValueLanguage ValueState) (e : Element) (letters : List ℕ) : Type 0 where
   pub alphabetic : list_all is_ascii_alphabetic letters ≡ true
-  pub goes_on : (v : ValueState) (t : List LexEvent)
-      → page x (codes "</" ++ letters) (config (in_element e v Nothing) t) ≡ config (in_element e v (PendingName letters)) t
+  pub goes_on : (s : Style Url) (t : List LexEvent)
+      → page x (codes "</" ++ letters) (config (in_element e (OfStyle s) Nothing) t) ≡ config (in_element e (OfStyle s) (PendingName letters)) t
 
 abbrev pub MayGoOn : ValueLanguage ValueState → Element → Pending → Type 0
 MayGoOn x e Nothing = ⊤
@@ -139,14 +147,87 @@ MayGoOn x e PendingLess = ⊤
 MayGoOn x e (PendingName letters) = EndTagBegun x e letters
 MayGoOn x e h = ⊥
 
+-- In a script in its element. What HTML holds back does not depend on the script: where a byte of a page leads from what is pending, where it ends no content
+-- and tells no `<!--`.
+abbrev pub tells_comment_of_html : Pending → Class → Bool
+tells_comment_of_html PendingBangDash HyphenMinus = true
+tells_comment_of_html g c = false
+
+pub record StepGoes (e : Element) (g : Pending) (b : ℕ) (k : Pending) : Type 0 where
+  pub read : List ℕ
+  pub step : script_step true e g (class_of b) b ≡ Reads read k
+  pub plain : tells_comment_of_html g (class_of b) ≡ false
+
+abbrev pub PageGoes : Element → Pending → List ℕ → Pending → Type 0
+PageGoes e g [] h = g ≡ h
+PageGoes e g (b ∷ bs) h = (k : Pending) × StepGoes e g b k × PageGoes e k bs h
+
+-- What may be pending on a path: in a token what begins one of the words. A page comes to the same by its bytes, but `<` and letters it reads.
+abbrev pub seen_by_page : Pending → Pending
+seen_by_page (PendingOpening letters) = Nothing
+seen_by_page h = h
+
+abbrev pub behind_less : List ℕ → List ℕ
+behind_less [] = []
+behind_less (b ∷ bs) = bs
+
+pub record ScriptMayGoOn (e : Element) (s : ScriptState) (h : Pending) : Type 0 where
+  pub element : e ≡ element.Script
+  pub word : script_may_end s ≡ false → in_word (pending_bytes h) ≡ BeginsWord
+  pub bytes : are_behind_less (behind_less (pending_bytes h)) ≡ true
+  pub goes_on : PageGoes e Nothing (pending_bytes h) (seen_by_page h)
+
+-- What the page has pending its script has read where it comes to nothing. Where nothing is written of what the path reads, in a comment and behind a slash, a
+-- blank may follow on the page: so its end tag is not whole. Else, where the path has something pending, a `<` follows on the page, or what stands for one; and
+-- where it has nothing, the page has nothing, or a node has ended in a `<` in code, and the next one begins with no `/` and no `!`.
+pub record IsBehindLess (s : ScriptState) : Type 0 where
+  pub sense : Sense
+  pub literals : s.literals ≡ []
+  pub at : s.at ≡ Code sense
+  pub held : s.held ≡ []
+  pub fresh : s.trail.fresh ≡ true
+  pub less : s.trail.markup ≡ codes "<"
+
+abbrev pub ScriptComesToNothing : (path page : Pending) → ScriptState → Type 0
+ScriptComesToNothing h Nothing s = ⊤
+ScriptComesToNothing Nothing PendingLess s = IsBehindLess s
+ScriptComesToNothing Nothing held s = ⊥
+ScriptComesToNothing h held s = ⊤
+
+abbrev pub is_whole_name : Element → Pending → Bool
+is_whole_name e (PendingName letters) = is_name_of e letters
+is_whole_name e h = false
+
+abbrev pub in_script_comment : ScriptState → Bool
+in_script_comment s = is_outside is_line s || is_outside is_block s
+
+abbrev pub slash_waits : ScriptState → Bool
+slash_waits s = not (is_empty (waiting_slash s))
+
+abbrev pub HeldBehind : (comment waits : Bool) → Element → (path page : Pending) → ScriptState → Type 0
+HeldBehind true waits e h held s = is_whole_name e held ≡ false
+HeldBehind false true e h held s = (is_whole_name e held ≡ false) × (h ≡ Nothing → held ≡ PendingLess → ⊥)
+HeldBehind false false e h held s = ScriptComesToNothing h held s
+
+-- With what is pending read, the page's script stands for the path's (`js_lexer`).
+pub record StandsInScript (e : Element) (s : ScriptState) (h : Pending) (t : List LexEvent) (d : Config ValueState) : Type 0 where
+  pub there : ScriptState
+  pub held : Pending
+  pub told : List LexEvent
+  pub at : d ≡ config (in_element e (OfScript there) held) told
+  pub stands : ScriptStands LexEvent InsideScript s t (read_in_page InsideScript (pending_bytes held) (page_script there told))
+  pub nothing : HeldBehind (in_script_comment s) (slash_waits s) e h held s
+
 abbrev pub StandsInLanguage : ValueLanguage ValueState → Element → ValueState → Pending → List LexEvent → Config ValueState → Type 0
 StandsInLanguage x e (OfStyle s) h t d = MayGoOn x e h × StandsAtStyle x e s h t d
+StandsInLanguage x e (OfScript s) h t d = ScriptMayGoOn e s h × StandsInScript e s h t d
 StandsInLanguage x e v h t d = ⊥
 
 abbrev pub StandsInContent : ValueLanguage ValueState → Element → Content ValueState → Pending → List LexEvent → Config ValueState → Type 0
 StandsInContent x e (Characters r) Nothing t d = StandsIn x (standing_content e t) r d
 StandsInContent x e (Characters Closed) PendingLess t d = PendingContentLess ValueState x e t d
 StandsInContent x e (Characters Closed) (PendingName letters) t d = PendingEndName ValueState x e letters t d
+StandsInContent x e Bytes (PendingOpening letters) t d = ⊥
 StandsInContent x e Bytes h t d = d ≡ config (InContent e Bytes (pending_in_page h)) t
 StandsInContent x e (InLanguage v) h t d = StandsInLanguage x e v h t d
 StandsInContent x e y h t d = ⊥
@@ -182,4 +263,3 @@ TextStands x (AttributeValue q tag v r) t d = StandsInValue x q tag v r t d
 TextStands x (AfterAttributeValue tag) t d = d ≡ config (AfterAttributeValue tag) t
 TextStands x (SelfClosingStartTag tag) t d = d ≡ config (SelfClosingStartTag tag) t
 TextStands x (InContent e y h) t d = StandsInContent x e y h t d
-TextStands x Unread t d = d ≡ config Unread t

@@ -1,7 +1,8 @@
 -- Where a page's reading stands for a path, and what follows. So nobody has to trust the definition of that: it holds where both begin, it holds
 -- after all pieces that are accepted, and where it holds the page has told what the path has told.
-use Rattle.std.specs.Prelude.{◌≡◌, Bool, true, false, codes, List}
+use Rattle.std.specs.Prelude.{◌≡◌, not, Bool, true, false, codes, List}
 use Rattle.css_lexer.specs.States.{Comment, StarAtCut, Out}
+use Rattle.js_lexer.specs.Holes.{script_has_mark}
 use Rattle.place_core.specs.page.Contents.{pending_bytes}
 use Rattle.place_core.specs.page.Events.{LexEvent}
 use Rattle.place_core.specs.page.Html.{start}
@@ -36,8 +37,8 @@ abbrev pub StandsSomewhere : Type 0
 StandsSomewhere = (pieces : List TextPiece) (p q : Place) (c d : Config ValueState) → IsValid p → IsIn p c.at → AreAccepted pieces p q
     → TextStands languages c.at c.emitted d → StandsBehind pieces q c d
 
--- Where it stands for a path that is at a place, as at the end of each text, the page has told what the path has. In the element of a style a `<` may be
--- pending back from the page, which the style has then told; and in a comment of it the page tells by a space what the path has told.
+-- Where it stands for a path that is at a place, as at the end of each text, the page has told what the path has. In the element of a style or a script a `<` may
+-- be pending back from the page, which the style or the script has then told; and in a comment of it the page tells by a space what the path has told.
 abbrev pub told_of_content : Content ValueState → Pending → List LexEvent → List LexEvent
 told_of_content (InLanguage v) h t = emits_fed languages v (pending_bytes h) t
 told_of_content y h t = t
@@ -46,10 +47,11 @@ abbrev pub told_there : Config ValueState → LexState ValueState → List LexEv
 told_there d (InContent e y h) = told_of_content y h d.emitted
 told_there d s = d.emitted
 
-abbrev pub in_comment_of_style : LexState ValueState → Bool
-in_comment_of_style (InContent e (InLanguage (OfStyle (Out (Comment star)))) h) = true
-in_comment_of_style (InContent e (InLanguage (OfStyle (Out StarAtCut))) h) = true
-in_comment_of_style s = false
+abbrev pub in_comment_of_element : LexState ValueState → Bool
+in_comment_of_element (InContent e (InLanguage (OfStyle (Out (Comment star)))) h) = true
+in_comment_of_element (InContent e (InLanguage (OfStyle (Out StarAtCut))) h) = true
+in_comment_of_element (InContent e (InLanguage (OfScript s)) h) = not (script_has_mark s)
+in_comment_of_element s = false
 
 abbrev pub told_beside : Bool → Config ValueState → List LexEvent
 told_beside true d = (page languages (codes " ") d).emitted
@@ -57,7 +59,7 @@ told_beside false d = told_there d d.at
 
 abbrev pub EmitsTheSame : Type 0
 EmitsTheSame = (p : Place) (s : LexState ValueState) (t : List LexEvent) (d : Config ValueState) → IsIn p s → TextStands languages s t d
-    → told_beside (in_comment_of_style s) d ≡ t
+    → told_beside (in_comment_of_element s) d ≡ t
 
 -- Whether nothing is pending back from the page at a state. Pending back are a reference, a `<`, a comment, and that a name is at its end: where the end
 -- of a text has ended it, or it is a hole, the page is in that name still. In a data block nothing is; but where a text has ended in `<`, the page's

@@ -2,17 +2,22 @@
 -- begins nothing, in text, a title or a textarea, becomes `&lt;`. An `&` with which a reference has begun becomes `&amp;` where the node ends
 -- in it, or a comment begins. What may still become one of these is pending back. A data block is written as it stands: there is no reference in
 -- it, and a `<` in it is a byte of it. Of a style in its element a comment becomes a space, and what may begin its end tag is written when it is known
--- to begin none, or with the end tag.
-use Rattle.std.specs.Prelude.{ℕ, Bool, true, false, codes, List, [], ◌∷◌, ◌++◌}
+-- to begin none, or with the end tag. Of a script in its element a block comment becomes a space or a line feed, and of a line comment nothing is written;
+-- in its tokens the `<` of `<script`, `</script` and `<!--`, and of what begins one at the end of the node, becomes `\x3C`.
+use Rattle.std.specs.Prelude.{ℕ, ◌&&◌, not, Bool, true, false, codes, List, [], ◌∷◌, ◌++◌, if◌then◌else◌}
 use Rattle.css_lexer.specs.Urls.{urls}
 use Rattle.css_lexer.specs.Written.{style_written, style_written_at_cut}
+use Rattle.js_lexer.specs.Elements.{script_may_end}
+use Rattle.js_lexer.specs.Feeding.{feed_script}
+use Rattle.js_lexer.specs.States.{ScriptState}
+use Rattle.js_lexer.specs.Written.{is_hidden_in_script, script_hides, script_written, script_written_at_cut}
 use Rattle.place_core.specs.page.Classes.{Class, White, ExclamationMark, Solidus, LessThan, GreaterThan, Letter, class_of}
 use Rattle.place_core.specs.page.Comments.{Declaration, OpensComment, OpensDoctype, Undecided, OpensNothing, declared_by}
-use Rattle.place_core.specs.page.Contents.{may_be_name_of, is_name_of, pending_bytes}
+use Rattle.place_core.specs.page.Contents.{ScriptStep, Reads, EndsContent, script_step, may_be_name_of, is_name_of, pending_bytes}
 use Rattle.place_core.specs.page.Html.{next, ends_value}
 use Rattle.place_core.specs.page.References.{Reference, Closed, Open, ReferenceStep, Grows, Closes, Breaks, turn, plain_bytes, as_it_stands}
-use Rattle.place_core.specs.page.States.{Template, LexState, Text, TagOpen, EndTagOpen, DeclarationOpen, InComment, BogusComment, InDoctype, TagName, WholeTagName, BeforeAttributeName, AttributeName, WholeAttributeName, AfterAttributeName, BeforeAttributeValue, AttributeValue, AfterAttributeValue, SelfClosingStartTag, Characters, Bytes, InLanguage, Pending, Nothing, PendingLess, PendingName, InContent, Unread}
-use Rattle.place_core.specs.page.Tags.{Feeding, feed_bytes, language_feeding, ValueLanguage, ValueState, OfStyle}
+use Rattle.place_core.specs.page.States.{Template, LexState, Text, TagOpen, EndTagOpen, DeclarationOpen, InComment, BogusComment, InDoctype, TagName, WholeTagName, BeforeAttributeName, AttributeName, WholeAttributeName, AfterAttributeName, BeforeAttributeValue, AttributeValue, AfterAttributeValue, SelfClosingStartTag, Characters, Bytes, InLanguage, Pending, Nothing, PendingLess, PendingName, InContent}
+use Rattle.place_core.specs.page.Tags.{Feeding, feed_bytes, language_feeding, ValueLanguage, ValueState, OfStyle, OfScript}
 use Rattle.place_core.specs.declared.element.Element.{Element}
 
 -- the bytes of a reference that has begun, where it is to be text
@@ -123,6 +128,47 @@ language_content_out w h c b e s = behind_released_out w (pending_bytes h) c b s
 abbrev pub language_content_cut_out : {S : Type 0} → ContentWriting S → Pending → S → List ℕ
 language_content_cut_out w h s = released_out w s (pending_bytes h) ++ w.cut (feed_bytes w.feeding s (pending_bytes h))
 
+-- A script in its element: how bytes are fed to it, whether an end tag may end it, what is written of a byte, of one of the words in a token, and of what
+-- waits at the end of a node or of the content.
+pub record ScriptWriting (S : Type 0) : Type 0 where
+  pub feed : S → ℕ → S
+  pub may_end : S → Bool
+  pub byte : S → ℕ → List ℕ
+  pub hides : S → List ℕ → List ℕ
+  pub cut : S → List ℕ
+
+abbrev pub script_bytes_out : {S : Type 0} → ScriptWriting S → S → List ℕ → List ℕ
+script_bytes_out w s [] = []
+script_bytes_out w s (b ∷ bs) = w.byte s b ++ script_bytes_out w (w.feed s b) bs
+
+abbrev pub script_read_out : {S : Type 0} → ScriptWriting S → S → List ℕ → List ℕ
+script_read_out w s bytes = if not (w.may_end s) && is_hidden_in_script bytes then w.hides s bytes else script_bytes_out w s bytes
+
+abbrev pub script_step_out : {S : Type 0} → ScriptWriting S → S → ScriptStep → ℕ → List ℕ
+script_step_out w s (Reads bytes h) b = script_read_out w s bytes
+script_step_out w s (EndsContent letters) b = w.cut s ++ ((codes "</" ++ letters) ++ b ∷ [])
+
+abbrev pub script_out : {S : Type 0} → ScriptWriting S → Pending → Class → ℕ → Element → S → List ℕ
+script_out w h c b e s = script_step_out w s (script_step (w.may_end s) e h c b) b
+
+-- at the end of a node: in a token what is pending is the beginning of a word
+abbrev pub script_end_state : {S : Type 0} → ScriptWriting S → S → List ℕ → S
+script_end_state w s [] = s
+script_end_state w s (b ∷ bs) = script_end_state w (w.feed s b) bs
+
+abbrev pub script_cut_out : {S : Type 0} → ScriptWriting S → Pending → S → List ℕ
+script_cut_out w h s =
+    (if w.may_end s then script_bytes_out w s (pending_bytes h) else w.hides s (pending_bytes h)) ++ w.cut (script_end_state w s (pending_bytes h))
+
+abbrev pub path_script : ScriptWriting ScriptState
+path_script = record {
+  feed = feed_script;
+  may_end = script_may_end;
+  byte = script_written;
+  hides = script_hides;
+  cut = script_written_at_cut;
+}
+
 -- of one path
 abbrev pub language_out : ValueState → ℕ → List ℕ
 language_out (OfStyle s) b = style_written urls s b
@@ -134,6 +180,14 @@ language_cut_out v = []
 
 abbrev pub path_writing : ValueLanguage ValueState → ContentWriting ValueState
 path_writing x = record { feeding = language_feeding x; byte = language_out; cut = language_cut_out }
+
+abbrev pub out_in_language : ValueLanguage ValueState → Pending → Class → ℕ → Element → ValueState → List ℕ
+out_in_language x h c b e (OfScript s) = script_out path_script h c b e s
+out_in_language x h c b e v = language_content_out (path_writing x) h c b e v
+
+abbrev pub cut_out_in_language : ValueLanguage ValueState → Pending → ValueState → List ℕ
+cut_out_in_language x h (OfScript s) = script_cut_out path_script h s
+cut_out_in_language x h v = language_content_cut_out (path_writing x) h v
 
 -- what is written when a byte is read
 abbrev pub out : ValueLanguage ValueState → LexState ValueState → Class → ℕ → List ℕ
@@ -156,8 +210,7 @@ out x (AfterAttributeValue tag) c b = b ∷ []
 out x (SelfClosingStartTag tag) c b = b ∷ []
 out x (InContent e (Characters r) h) c b = content_out h c b e r
 out x (InContent e Bytes h) c b = b ∷ []
-out x (InContent e (InLanguage v) h) c b = language_content_out (path_writing x) h c b e v
-out x Unread c b = b ∷ []
+out x (InContent e (InLanguage v) h) c b = out_in_language x h c b e v
 
 -- likewise, and where the node ends
 abbrev pub content_cut_out : Pending → Reference → List ℕ
@@ -186,8 +239,7 @@ cut_out x (AfterAttributeValue tag) = []
 cut_out x (SelfClosingStartTag tag) = []
 cut_out x (InContent e (Characters r) h) = content_cut_out h r
 cut_out x (InContent e Bytes h) = []
-cut_out x (InContent e (InLanguage v) h) = language_content_cut_out (path_writing x) h v
-cut_out x Unread = []
+cut_out x (InContent e (InLanguage v) h) = cut_out_in_language x h v
 
 -- what is written of the text of a node, from the state that its path has come to
 abbrev pub written : ValueLanguage ValueState → List ℕ → LexState ValueState → List ℕ

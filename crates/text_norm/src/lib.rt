@@ -5,6 +5,7 @@ mod laws;
 mod pending;
 mod plain_runs;
 mod reference;
+mod script_writer;
 mod text_writer;
 
 pub use laws::{

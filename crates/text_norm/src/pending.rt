@@ -1,12 +1,17 @@
-ghost use Rattle.std.specs.Prelude.{◌≡◌, ◌-◌, ◌≤◌, ℕ, List, length};
+ghost use Rattle.std.specs.Prelude.{◌≡◌, ◌+◌, ◌-◌, ◌≤◌, ℕ, List, length};
 ghost use Rattle.css_step.specs.StyleScanViews.{style_scan_at};
+ghost use Rattle.js_lexer.specs.Written.{waiting_slash};
+ghost use Rattle.js_step.specs.ScriptScans.{script_shared};
+ghost use Rattle.js_step.specs.ScriptScanViews.{script_scan_at};
 ghost use Rattle.html_scan.specs.ScanViews.{scan_at, pending_from};
-ghost use Rattle.text_norm.specs.Kept.{comment_change, content_change, ending_of, less_change, less_kept, solidus_kept, style_change, style_ending};
+ghost use Rattle.text_norm.specs.Kept.{comment_change, content_change, ending_of, held_in_line, less_change, less_kept, solidus_kept, style_change, style_ending};
 ghost use Rattle.text_norm.specs.Kept as spec;
 
 use crate::reference::Opened;
+use crate::script_writer::{held_length, length_of, waiting};
 use css_step::StyleScan;
 use html_scan::Scan;
+use js_step::ScriptScan;
 use place_core::{Css, Element, Place};
 
 /// How far a text has been read and written: the scan state to which it has been read, the reference that is open there, and the
@@ -37,6 +42,8 @@ pub enum Change {
     LeavesPending,
     /// The pending end tag of a style ends its comment, which becomes a space.
     EndsInStyleComment,
+    /// It is said of scripts in their element by what the byte does there.
+    InScript,
 }
 
 /// Where a text ends.
@@ -52,6 +59,8 @@ pub enum Ending {
     InStyle,
     /// In a comment of a style, which becomes a space.
     InStyleComment,
+    /// In a script in its element.
+    InScript,
 }
 
 /// What becomes of a byte, by what has been read before it and with it.
@@ -64,6 +73,7 @@ pub fn change_of(before: Scan, after: Scan) -> Change
         Scan::AfterLess | Scan::AfterLessSolidus | Scan::InDeclaration { .. } => {
             after_less(after)
         }
+        Scan::At(Place::Script(_)) | Scan::InScriptElement { .. } => Change::InScript,
         Scan::AfterContentLess(Element::DataBlock) => Change::Keeps,
         Scan::InContentName {
             element: Element::DataBlock,
@@ -151,6 +161,7 @@ pub fn ending_at(scan: Scan) -> Ending
 {
     match scan {
         Scan::At(Place::Comment(_)) | Scan::InCommentEnd(_) => Ending::InComment,
+        Scan::At(Place::Script(_)) | Scan::InScriptElement { .. } => Ending::InScript,
         Scan::AfterContentLess(Element::DataBlock) => Ending::Loose,
         Scan::InContentName {
             element: Element::DataBlock,
@@ -179,6 +190,7 @@ fn style_end(in_comment: bool) -> Ending
 }
 
 /// The offset of the pending `<` after this many bytes, or in a style of the pending `/`; and this number itself where none is pending.
+#[tactic(auto, using(crate::proofs::ScriptBacks::kept_length))]
 pub fn less_from(scan: Scan, index: usize) -> usize
     requires { pending_from scan ≤ index }
     ensures { (text : List ℕ) → index ≤ length text
@@ -197,8 +209,21 @@ pub fn less_from(scan: Scan, index: usize) -> usize
         Scan::InStyleElement(style) => style_from(style, index),
         Scan::AfterStyleLess(style) => style_from(style, index.saturating_sub(1)),
         Scan::InStyleName { style, from } => style_from(style, from),
+        Scan::InScriptElement { script, pending } => {
+            let back = length_of(pending);
+            script_from(script, index.saturating_sub(back))
+        }
         _ => index,
     }
+}
+
+fn script_from(script: ScriptScan, index: usize) -> usize
+    ensures { let s = script_shared (script_scan_at script) in
+        result ≡ index - (length (waiting_slash s) + length (held_in_line s)) }
+{
+    index
+        .saturating_sub(waiting(script))
+        .saturating_sub(held_length(script))
 }
 
 fn style_from(style: StyleScan, index: usize) -> usize

@@ -6,6 +6,7 @@ ghost use Rattle.text_norm.specs.Written.{text_escaped};
 use crate::pending::{Change, Ending, WriteProgress, change_of, ending_at, less_from};
 use crate::plain_runs::{push_less, push_reference, push_run, resting_end};
 use crate::reference::{begun, reference_after};
+use crate::script_writer::{write_in_script, write_script_end};
 use html_scan::{Scan, class_of, next};
 use page_io::{Memory, Text};
 use place_core::Place;
@@ -16,7 +17,9 @@ use std::alloc::Global;
 /// - a comment is left out,
 /// - a `<` that begins nothing, in text, a title or a textarea, is written as `&lt;`,
 /// - an `&` with which a reference has begun is written as `&amp;` where the text ends in the reference, or a comment begins,
-/// - in the element `style`, a comment is written as a space.
+/// - in the element `style`, a comment is written as a space,
+/// - in the element `script`, a block comment is written as a space or a line feed, of a line comment nothing is written, and in a token
+///   the `<` of `<script`, `</script` and `<!--` is written as `\x3C`.
 ///
 /// So what comes after the text, or after the comment, goes on with none of these. A data block is written as it stands. (HTML
 /// Standard, section 13.2.5.) Fails only if allocation fails. Takes time in proportion to the length of the text.
@@ -113,6 +116,7 @@ fn write_byte(
                 done: progress.done,
             })
         }
+        Change::InScript => write_in_script(out, text, index, progress, scan),
     }
 }
 
@@ -148,6 +152,7 @@ fn write_end(out: &mut Text, text: &str, progress: WriteProgress) -> Result<(), 
         Ending::InComment => Ok(()),
         Ending::InStyle => push_run(out, text, progress.done, text.len()),
         Ending::InStyleComment => out.push_str(" "),
+        Ending::InScript => write_script_end(out, text, progress),
         Ending::BehindLess => {
             let less = less_from(progress.scan, text.len());
             push_less(out, text, progress.done, less)?;

@@ -9,8 +9,9 @@ use Rattle.url_lexer.specs.Events.{ToldScheme, UrlEvent}
 pub data LexEvent : Type 0 where
   -- a byte of a text, a title or a textarea, with references undone
   TextByte : ℕ → LexEvent
-  -- a byte of a data block, and after its `<!--`
+  -- a byte of a data block
   BlockByte : ℕ → LexEvent
+  -- after a `<!--` in a data block or a script: HTML would read what follows otherwise (script data escaped states)
   Escape : LexEvent
   -- a hole in the text, block, name or value that is open there
   Mark : LexEvent
@@ -27,7 +28,7 @@ pub data LexEvent : Type 0 where
   ValueScheme : ToldScheme → LexEvent
   -- what a style tells, in place of its bytes
   InsideStyle : StyleEvent UrlEvent → LexEvent
-  -- what a script in a value tells, in place of its bytes
+  -- what a script tells, in place of its bytes
   InsideScript : ScriptEvent → LexEvent
   -- the tag ends, and closes itself or not
   TagEnds : Bool → LexEvent
@@ -37,8 +38,6 @@ pub data LexEvent : Type 0 where
   DoctypeBegins : LexEvent
   DoctypeByte : ℕ → LexEvent
   DoctypeEnds : LexEvent
-  -- a byte of what is not read yet: the content of script elements
-  UnreadByte : ℕ → LexEvent
 
 -- Events are told the last first: of two such calls, one in the other, the inner one is told before.
 

@@ -1,15 +1,15 @@
 -- How the bytes of a page are read, and the texts of a template (HTML Standard, section 13.2.5): text, comments, doctypes, tags, the values of
--- attributes, and the content of title, textarea, data blocks and styles. The content of scripts is not read yet: it is one state, Unread, out of
--- which nothing leads; nor is it said here what the end of a page tells: of what is pending back there, and inside a tag, a comment or a doctype. NUL,
--- CR and CR LF are bytes like others. The language of the values and of styles is a parameter.
+-- attributes, and the content of title, textarea, data blocks, styles and scripts. It is not said here what the end of a page tells: of what is pending back
+-- there, and inside a tag, a comment or a doctype. NUL, CR and CR LF are bytes like others. The language of the values, of styles and of scripts is a
+-- parameter.
 use Rattle.std.specs.Prelude.{ℕ, Bool, true, false, codes, List, [], ◌∷◌, ◌++◌}
 use Rattle.std.specs.Char.{to_ascii_lowercase}
 use Rattle.place_core.specs.page.Classes.{Class, White, ExclamationMark, QuotationMark, Apostrophe, Solidus, LessThan, EqualsSign, GreaterThan, QuestionMark, Letter, class_of}
 use Rattle.place_core.specs.page.Comments.{Declaration, OpensComment, OpensDoctype, Undecided, OpensNothing, declared_by, next_in_comment, next_in_bogus, next_in_doctype, emits_doctype}
-use Rattle.place_core.specs.page.Contents.{next_in_content, emits_in_content}
-use Rattle.place_core.specs.page.Events.{LexEvent, StartTagBegins, EndTagBegins, TagNameByte, AttributeBegins, AttributeNameByte, AttributeNameEnds, TagEnds, Comment, DoctypeBegins, UnreadByte, event_text_bytes, doctype_bytes}
+use Rattle.place_core.specs.page.Contents.{next_content_in, emits_content_in}
+use Rattle.place_core.specs.page.Events.{LexEvent, StartTagBegins, EndTagBegins, TagNameByte, AttributeBegins, AttributeNameByte, AttributeNameEnds, TagEnds, Comment, DoctypeBegins, event_text_bytes, doctype_bytes}
 use Rattle.place_core.specs.page.References.{Reference, Closed, next_reference, undone_byte, settled, as_it_stands}
-use Rattle.place_core.specs.page.States.{LexMode, Page, Template, LexState, Text, TagOpen, EndTagOpen, DeclarationOpen, InComment, Started, BogusComment, InDoctype, TagName, WholeTagName, BeforeAttributeName, AttributeName, WholeAttributeName, AfterAttributeName, BeforeAttributeValue, AttributeValue, AfterAttributeValue, SelfClosingStartTag, InContent, Characters, Bytes, InLanguage, Nothing, Unread, Config, config}
+use Rattle.place_core.specs.page.States.{LexMode, Page, Template, LexState, Text, TagOpen, EndTagOpen, DeclarationOpen, InComment, Started, BogusComment, InDoctype, TagName, WholeTagName, BeforeAttributeName, AttributeName, WholeAttributeName, AfterAttributeName, BeforeAttributeValue, AttributeValue, AfterAttributeValue, SelfClosingStartTag, InContent, Characters, Bytes, InLanguage, Nothing, Config, config}
 use Rattle.place_core.specs.page.Tags.{Tag, tag_of_name, tag_named, element_on, Value, ValueLanguage, languages, attribute_value_of, with_bytes, emitted_bytes, emitted_end, tag_with_value, without_value, Quoting, DoubleQuoted, SingleQuoted, Unquoted, ValueState}
 use Rattle.place_core.specs.page.Words.{kind_of}
 use Rattle.place_core.specs.declared.element.Element.{Element}
@@ -24,7 +24,7 @@ abbrev pub content_of : {B : Type 0} → ValueLanguage B → Element → LexStat
 content_of x element.Title = InContent element.Title (Characters Closed) Nothing
 content_of x element.Textarea = InContent element.Textarea (Characters Closed) Nothing
 content_of x element.DataBlock = InContent element.DataBlock Bytes Nothing
-content_of x element.Script = Unread
+content_of x element.Script = InContent element.Script (InLanguage (x.start kind.Script)) Nothing
 content_of x element.Style = InContent element.Style (InLanguage (x.start kind.Style)) Nothing
 content_of x element.Other = Text Closed
 
@@ -212,8 +212,7 @@ next x m (BeforeAttributeValue tag k) c b = next_before_value x c b tag k
 next x m (AttributeValue q tag v r) c b = next_value x (ends_value q c) q c b tag v r
 next x m (AfterAttributeValue tag) c b = next_before_name x c b tag
 next x m (SelfClosingStartTag tag) c b = next_before_name x c b tag
-next x m (InContent e y h) c b = next_in_content x h c b e y
-next x m Unread c b = Unread
+next x m (InContent e y h) c b = next_content_in x m h c b e y
 
 abbrev pub emits : {B : Type 0} → ValueLanguage B → LexMode → LexState B → Class → ℕ → List LexEvent → List LexEvent
 emits x m (Text r) c b t = emits_text c b r t
@@ -233,8 +232,7 @@ emits x m (BeforeAttributeValue tag k) c b t = emits_before_value x c b k t
 emits x m (AttributeValue q tag v r) c b t = emits_value x (ends_value q c) q c b v r t
 emits x m (AfterAttributeValue tag) c b t = emits_before_name c b t
 emits x m (SelfClosingStartTag tag) c b t = emits_self_closing c b t
-emits x m (InContent e y h) c b t = emits_in_content x h c b e y t
-emits x m Unread c b t = UnreadByte b ∷ t
+emits x m (InContent e y h) c b t = emits_content_in x m h c b e y t
 
 abbrev pub byte_over : {B : Type 0} → ValueLanguage B → LexMode → ℕ → Config B → Config B
 byte_over x m b c = config (next x m c.at (class_of b) b) (emits x m c.at (class_of b) b c.emitted)

@@ -5,7 +5,7 @@ use Rattle.place_core.specs.page.Contents.{content_at_cut, pending_at_cut, emits
 use Rattle.place_core.specs.page.Events.{LexEvent, Mark, AttributeBegins, event_text_bytes}
 use Rattle.place_core.specs.page.Html.{read_over}
 use Rattle.place_core.specs.page.References.{Closed, settled, as_it_stands}
-use Rattle.place_core.specs.page.States.{Template, LexState, Text, TagOpen, EndTagOpen, DeclarationOpen, InComment, BogusComment, InDoctype, TagName, WholeTagName, BeforeAttributeName, AttributeName, WholeAttributeName, AfterAttributeName, BeforeAttributeValue, AttributeValue, AfterAttributeValue, SelfClosingStartTag, InContent, Unread, Config, config}
+use Rattle.place_core.specs.page.States.{Template, LexState, Text, TagOpen, EndTagOpen, DeclarationOpen, InComment, BogusComment, InDoctype, TagName, WholeTagName, BeforeAttributeName, AttributeName, WholeAttributeName, AfterAttributeName, BeforeAttributeValue, AttributeValue, AfterAttributeValue, SelfClosingStartTag, InContent, Config, config}
 use Rattle.place_core.specs.page.Tags.{ValueLanguage, tag_named, element_on, attribute_value_of, with_bytes, emitted_bytes, cut_value, holed_value, emitted_hole, without_value, Unquoted}
 use Rattle.place_core.specs.page.Words.{kind_of}
 use Rattle.place_core.specs.declared.kind.Kind.TheVariants as kind
@@ -36,7 +36,6 @@ at_cut x (AttributeValue q tag v r) = AttributeValue q tag (cut_value x (with_by
 at_cut x (AfterAttributeValue tag) = AfterAttributeValue tag
 at_cut x (SelfClosingStartTag tag) = SelfClosingStartTag tag
 at_cut x (InContent e y h) = InContent e (content_at_cut x y h) (pending_at_cut y h)
-at_cut x Unread = Unread
 
 abbrev pub emits_cut : {B : Type 0} → ValueLanguage B → LexState B → List LexEvent → List LexEvent
 emits_cut x (Text r) t = event_text_bytes (as_it_stands r) t
@@ -57,7 +56,6 @@ emits_cut x (AttributeValue q tag v r) t = emitted_bytes x v (as_it_stands r) t
 emits_cut x (AfterAttributeValue tag) t = t
 emits_cut x (SelfClosingStartTag tag) t = t
 emits_cut x (InContent e y h) t = emits_content_cut x y h t
-emits_cut x Unread t = t
 
 abbrev pub cut : {B : Type 0} → ValueLanguage B → Config B → Config B
 cut x c = config (at_cut x c.at) (emits_cut x c.at c.emitted)
@@ -87,9 +85,8 @@ at_hole x (AttributeValue q tag v r) = AttributeValue q tag (holed_value x v) r
 at_hole x (AfterAttributeValue tag) = WholeAttributeName tag kind.Plain
 at_hole x (SelfClosingStartTag tag) = WholeAttributeName tag kind.Plain
 at_hole x (InContent e y h) = content_at_hole x e y h
-at_hole x Unread = Unread
 
--- what a hole tells in its place: its mark in the text, value or content that is open there, after what a value or a style has pending back, or in a
+-- what a hole tells in its place: its mark in the text, value or content that is open there, after what a value, a style or a script has pending back, or in a
 -- name that begins with it; in a comment nothing, since nothing of a comment is told
 abbrev pub mark_in : {B : Type 0} → ValueLanguage B → LexState B → List LexEvent → List LexEvent
 mark_in x (Text r) t = Mark ∷ t
@@ -110,7 +107,6 @@ mark_in x (AttributeValue q tag v r) t = emitted_hole x v t
 mark_in x (AfterAttributeValue tag) t = Mark ∷ AttributeBegins ∷ t
 mark_in x (SelfClosingStartTag tag) t = Mark ∷ AttributeBegins ∷ t
 mark_in x (InContent e y h) t = emits_content_hole x y h t
-mark_in x Unread t = t
 
 abbrev pub read_symbol : {B : Type 0} → ValueLanguage B → Symbol → Config B → Config B
 read_symbol x (Written bytes) c = read_node x bytes c

@@ -80,7 +80,7 @@ abbrev pub WhereClosed : Reference → Type 0 → Type 0
 WhereClosed Closed fact = fact
 WhereClosed _ fact = ⊥
 
--- In an element, whether the style stands right behind a `<`. A hole without bytes may stand between that and the bytes at hand: they are read
+-- In an element, whether the style stands right behind a `<`; in a script no value begins with a `/`. A hole without bytes may stand between that and the bytes at hand: they are read
 -- alike before and after it, but a `/` would be part of the end tag.
 abbrev pub is_behind_less : ValueState → Bool
 is_behind_less (OfStyle (Out AfterLessThan)) = true

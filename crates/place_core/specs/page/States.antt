@@ -30,9 +30,10 @@ pub data Content (B : Type 0) : Type 0 where
   Bytes : Content B
   InLanguage : B → Content B
 
--- what is pending back in such a content, since it may begin the end tag, or in a data block a `<!--`: nothing, `<` (less-than sign state), `</`
--- and letters that may become the element's name (end tag open and end tag name states), `<!` and `<!-` (escape start states); and on a path a
--- `<` of a data block with which a node has ended: what follows must not go on with it
+-- what is pending back in such a content, since it may begin the end tag, or in a data block or a script a `<!--`: nothing, `<` (less-than sign state), `</`
+-- and letters that may become the element's name (end tag open and end tag name states), `<!` and `<!-` (escape start states); on a path a
+-- `<` of a data block with which a node has ended: what follows must not go on with it; and on a path, in the text of a token of a script, `<` and letters
+-- that may become `<script`: there this word, `</script` and `<!--` are no tag and no comment, and are not written as they stand
 pub data Pending : Type 0 where
   Nothing : Pending
   PendingLess : Pending
@@ -40,6 +41,7 @@ pub data Pending : Type 0 where
   PendingName : List ℕ → Pending
   PendingBang : Pending
   PendingBangDash : Pending
+  PendingOpening : List ℕ → Pending
 
 -- Where a `<` follows an open reference in text, the reference stays open until it is known what the `<` begins: a comment in a template
 -- leaves it unfinished, a tag does not.
@@ -68,11 +70,9 @@ pub data LexState (B : Type 0) : Type 0 where
   AttributeValue : Quoting → Tag → Value B → Reference → LexState B
   AfterAttributeValue : Tag → LexState B
   SelfClosingStartTag : Tag → LexState B
-  -- in the content of a title or a textarea (RCDATA states), of a data block (script data states), and of a style (RAWTEXT states), with what is
-  -- pending back
+  -- in the content of a title or a textarea (RCDATA states), of a data block and a script (script data states), and of a style (RAWTEXT states), with what
+  -- is pending back
   InContent : Element → Content B → Pending → LexState B
-  -- in the content of a script
-  Unread : LexState B
 
 -- where the reading stands, and the events so far, the last first
 pub record Config (B : Type 0) : Type 0 where

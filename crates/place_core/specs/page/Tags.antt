@@ -12,6 +12,7 @@ use Rattle.css_lexer.specs.States.{Style, style_start}
 use Rattle.css_lexer.specs.Steps.{feed_style, style_emits, style_ends, read_style, style_reading}
 use Rattle.css_lexer.specs.Urls.{urls}
 use Rattle.js_lexer.specs.Alike.{ScriptsAlike}
+use Rattle.js_lexer.specs.Elements.{script_may_end}
 use Rattle.js_lexer.specs.Feeding.{feed_script, script_emits, script_ends, script_reading, read_on}
 use Rattle.js_lexer.specs.Holes.{script_after_cut, script_settled, script_emits_settled, script_has_mark, script_after_hole, script_behind, ScriptLeadsPlain}
 use Rattle.js_lexer.specs.Plain.{TellsPlain, HasPlainBytes}
@@ -81,6 +82,8 @@ pub record CutRefusal : Type 0 where
 --   a reference by a name that stands for no character is refused there. The end of the value, or of the content, tells `ends`.
 -- - The end of a node leads a path to the state `after_cut`, where it is not refused (`refuses_cut`). In the content of an element it may stand behind
 --   a `<`: by the state before that, `refuses_less` says whether the `<` may not be cut from what follows, with which it may be an end tag.
+-- - The content of an element may be a script (`is_script`): then HTML reads it as script data. And where a text of a template stands in such a state, an end
+--   tag may end it (`may_end`); in a page it does so everywhere.
 -- - A hole: what is pending back before it is told first (`emits_settled`), which leads to the state `settled`. It has a mark unless nothing of it is
 --   told there (`has_mark`). It leads a path to the state `after_hole`, and a page to the state `behind`, by the state before the bytes of the
 --   hole and the one after them. `LeadsPlain` says that these bytes, of which the value has such, are plain, and lead from the one to the other.
@@ -95,6 +98,8 @@ pub record ValueLanguage (B : Type 0) : Type 1 where
   pub after_cut : B → B
   pub refuses_cut : B → Option Code
   pub refuses_less : B → Option CutRefusal
+  pub is_script : B → Bool
+  pub may_end : B → Bool
   pub settled : B → B
   pub emits_settled : B → List LexEvent → List LexEvent
   pub has_mark : B → Bool
@@ -185,7 +190,7 @@ refuses_value_cut (OfUrl u) = option_map (λ e. refusal_code e.refusal) (url_ref
 refuses_value_cut (OfStyle s) = option_map (λ e. style_code e.code) (style_refuses_cut urls s)
 refuses_value_cut (OfScript s) = option_map (λ e. script_code e.refusal) (script_refuses_cut s)
 
--- A `<` that ends a node in the element: a style says where it may not. Of what is no style no element consists that is built yet.
+-- A `<` that ends a node in the element: a style says where it may not.
 abbrev pub style_cut : StyleCutRefusal → CutRefusal
 style_cut e = record { code = style_code e.code; back = e.back; shown = e.shown }
 
@@ -194,6 +199,15 @@ refuses_value_less (OfKind k) = None
 refuses_value_less (OfUrl u) = None
 refuses_value_less (OfStyle s) = option_map style_cut (refuses_less_than_cut urls s)
 refuses_value_less (OfScript s) = None
+
+-- In a string, a regular expression and a template literal of a template's script an end tag is text.
+abbrev pub value_is_script : ValueState → Bool
+value_is_script (OfScript s) = true
+value_is_script v = false
+
+abbrev pub value_may_end : ValueState → Bool
+value_may_end (OfScript s) = script_may_end s
+value_may_end v = true
 
 -- where a hole begins, a style or a script tells a `/` that is pending; in a comment of these a hole has no mark
 abbrev pub value_settled : ValueState → ValueState
@@ -263,6 +277,8 @@ languages = record {
   after_cut = value_after_cut;
   refuses_cut = refuses_value_cut;
   refuses_less = refuses_value_less;
+  is_script = value_is_script;
+  may_end = value_may_end;
   settled = value_settled;
   emits_settled = emits_value_settled;
   has_mark = value_has_mark;

@@ -1,19 +1,21 @@
 -- Where a text of a template is refused, and by which code: the conditions that stand on the places of paths, byte by byte, at the end of a
 -- node and at a hole. The checks of a byte have one order, whether one path stands at a place or several do.
 use Rattle.std.specs.Prelude.{◌≡◌, ℕ, zero, suc, ◌+◌, ◌-◌, ◌==◌, nat_lt, bytes_eq, encode_utf8, Bool, true, false, ◌&&◌, ◌||◌, codes, List, [], ◌∷◌, ◌++◌, length, Option, Some, None, option_map, if◌then◌else◌}
+use Rattle.js_lexer.specs.Elements.{script_may_end}
 use Rattle.js_lexer.specs.Feeding.{feed_script}
 use Rattle.js_lexer.specs.Holes.{script_after_cut}
 use Rattle.js_lexer.specs.Refusals as script
 use Rattle.js_lexer.specs.Refusals.{Cause, refuses_end, script_refuses, script_refuses_cut}
 use Rattle.js_lexer.specs.States.{ScriptState, script_start}
 use Rattle.place_core.specs.page.Classes.{Class, White, ExclamationMark, QuotationMark, Apostrophe, HyphenMinus, Solidus, LessThan, EqualsSign, GreaterThan, GraveAccent, Letter, is_equals_sign, class_of}
-use Rattle.place_core.specs.page.Contents.{is_name_of, may_be_name_of, pending_bytes}
+use Rattle.place_core.specs.page.Contents.{ScriptStep, Reads, EndsContent, script_step, is_name_of, may_be_name_of, pending_bytes}
 use Rattle.place_core.specs.page.Html.{next, ends_value}
 use Rattle.place_core.specs.page.Paths.{at_cut}
 use Rattle.place_core.specs.page.References.{Form, Named, Reference, Closed, Open, ReferenceStep, Grows, Closes, Breaks, turn, names, named_in, replacement, meaning, flushed, plain_bytes, settled, as_it_stands}
 use Rattle.place_core.specs.place.LastLexeme.{last_lexeme_start, language_reference}
+use Rattle.place_core.specs.place.ScriptParts.{script_js_before}
 use Rattle.place_core.specs.place.StatePlaces.{placed, value_spot, value_body_before, tag_spot, only_name, only_before, only_inside, only_after, quotes_at}
-use Rattle.place_core.specs.page.States.{Template, LexState, Text, TagOpen, EndTagOpen, DeclarationOpen, InComment, Broken, CommentState, BogusComment, InDoctype, TagName, WholeTagName, BeforeAttributeName, AttributeName, WholeAttributeName, AfterAttributeName, BeforeAttributeValue, AttributeValue, AfterAttributeValue, SelfClosingStartTag, Characters, Bytes, InLanguage, Pending, Nothing, PendingLess, LessAtCut, PendingName, PendingBang, PendingBangDash, InContent, Unread}
+use Rattle.place_core.specs.page.States.{Template, LexState, Text, TagOpen, EndTagOpen, DeclarationOpen, InComment, Broken, CommentState, BogusComment, InDoctype, TagName, WholeTagName, BeforeAttributeName, AttributeName, WholeAttributeName, AfterAttributeName, BeforeAttributeValue, AttributeValue, AfterAttributeValue, SelfClosingStartTag, Characters, Bytes, InLanguage, Pending, Nothing, PendingLess, LessAtCut, PendingName, PendingBang, PendingBangDash, PendingOpening, InContent}
 use Rattle.place_core.specs.page.Tags.{Tag, is_second_type, Value, attribute_value_of, ValueOf, Deciding, ValueLanguage, CutRefusal, with_bytes, Feeding, feeding, language_feeding, feed_bytes, fed_state, refuses_cut_of, tag_with_value, ValueState, OfScript, languages, script_code, tag_of_name, element_on}
 use Rattle.place_core.specs.page.Words.{kind_of}
 use Rattle.place_core.specs.declared.bare.Bare.{Bare}
@@ -24,7 +26,6 @@ use Rattle.place_core.specs.declared.code.Code.TheVariants as code
 use Rattle.place_core.specs.declared.css.Css.{Css}
 use Rattle.place_core.specs.declared.css.Css.TheVariants as css
 use Rattle.place_core.specs.declared.element.Element.{Element}
-use Rattle.place_core.specs.declared.element.Element.TheVariants as element
 use Rattle.place_core.specs.declared.kind.Kind.{Kind}
 use Rattle.place_core.specs.declared.kind.Kind.TheVariants as kind
 use Rattle.place_core.specs.declared.place.Place.{Place}
@@ -33,19 +34,8 @@ use Rattle.place_core.specs.declared.quotes.Quotes.{Quotes}
 use Rattle.place_core.specs.declared.quotes.Quotes.TheVariants as quotes
 use Rattle.place_core.specs.declared.step_err.StepErr.{StepErr}
 use Rattle.place_core.specs.declared.tag_of.TagOf.{TagOf}
-use Rattle.place_core.specs.declared.tag_of.TagOf.TheVariants as tag
 use Rattle.place_core.specs.declared.tag_place.TagPlace.{TagPlace}
 use Rattle.place_core.specs.declared.value_place.ValuePlace.{ValuePlace}
-
--- What is not built yet: a tag that ends and enters the content of a script.
-abbrev pub content_error : TagOf → Option Code
-content_error tag.End = None
-content_error (tag.Start element.Title) = None
-content_error (tag.Start element.Textarea) = None
-content_error (tag.Start element.Style) = None
-content_error (tag.Start element.Script) = Some code.NotBuilt
-content_error (tag.Start element.DataBlock) = None
-content_error (tag.Start element.Other) = None
 
 abbrev pub body_error : Body → Option Code
 body_error body.Plain = None
@@ -64,7 +54,7 @@ equals_error false false = None
 abbrev pub tag_error : TagPlace → Class → Option Code
 tag_error t White = None
 tag_error t Solidus = None
-tag_error t GreaterThan = content_error t.tag
+tag_error t GreaterThan = None
 tag_error t EqualsSign = equals_error t.spots.name t.spots.before
 tag_error t QuotationMark = Some (if t.spots.name then code.SplitToken else code.BadHTML)
 tag_error t Apostrophe = Some (if t.spots.name then code.SplitToken else code.BadHTML)
@@ -80,7 +70,6 @@ bare_error t b Apostrophe = if b.uq then Some code.BadHTML else None
 bare_error t b LessThan = Some code.BadHTML
 bare_error t b EqualsSign = Some code.BadHTML
 bare_error t b GraveAccent = Some code.BadHTML
-bare_error t b GreaterThan = content_error t
 bare_error t b c = None
 
 abbrev pub quotes_error : TagOf → Quotes → Class → Option Code
@@ -109,7 +98,7 @@ block_error true Solidus = Some code.SplitToken
 block_error true ExclamationMark = Some code.SplitToken
 block_error lt c = None
 
--- a byte at a place, but for what the language of a value or of a style refuses
+-- a byte at a place, but for what the language of a value or an element refuses
 abbrev pub place_error : Place → Class → Option Code
 place_error place.Text c = None
 place_error place.Doctype c = None
@@ -117,7 +106,7 @@ place_error (place.Comment dash) c = comment_error dash c
 place_error (place.Rcdata e) c = None
 place_error (place.Tag t) c = tag_error t c
 place_error (place.Value v) c = value_error v c
-place_error (place.Script js) c = Some code.NotBuilt
+place_error (place.Script js) c = None
 place_error (place.Style s) c = None
 place_error (place.Block lt) c = block_error lt c
 
@@ -158,19 +147,19 @@ block_cut_error PendingBangDash = Some (record { code = code.SplitToken; back = 
 block_cut_error Nothing = None
 block_cut_error PendingLess = None
 block_cut_error LessAtCut = None
+block_cut_error (PendingOpening letters) = None
 
 -- a byte within a name of a tag, and of an attribute, of which that many bytes have been read
 abbrev pub tag_name_error : TagOf → Class → Option Code
 tag_name_error t QuotationMark = Some code.BadHTML
 tag_name_error t Apostrophe = Some code.BadHTML
 tag_name_error t LessThan = Some code.BadHTML
-tag_name_error t GreaterThan = content_error t
 tag_name_error t c = None
 
 abbrev pub attribute_name_error : TagOf → Bool → Kind → ℕ → Class → Option PathCause
 attribute_name_error t typed k len White = unless_second (is_second_type typed k) len None
 attribute_name_error t typed k len Solidus = unless_second (is_second_type typed k) len None
-attribute_name_error t typed k len GreaterThan = unless_second (is_second_type typed k) len (content_error t)
+attribute_name_error t typed k len GreaterThan = unless_second (is_second_type typed k) len None
 attribute_name_error t typed k len EqualsSign = unless_second (is_second_type typed k) len None
 attribute_name_error t typed k len QuotationMark = at_hand (Some code.BadHTML)
 attribute_name_error t typed k len Apostrophe = at_hand (Some code.BadHTML)
@@ -253,6 +242,7 @@ content_byte_error m e s LessAtCut c b = released_error m s (codes "<") c b
 content_byte_error m e s (PendingName letters) c b = end_name_error m s (may_be_name_of e (letters ++ b ∷ [])) (is_name_of e letters) c b letters
 content_byte_error m e s PendingBang c b = released_error m s (codes "<!") c b
 content_byte_error m e s PendingBangDash c b = released_error m s (codes "<!-") c b
+content_byte_error m e s (PendingOpening letters) c b = released_error m s (codes "<" ++ letters) c b
 
 -- The end of a node there: the pending bytes, each at its own place; then a `<` that the language may not cut from what follows (`refuses_less`, by
 -- the state before it), and more of the end tag.
@@ -265,6 +255,78 @@ content_end_cut_error m refuses_less s h = first_cause (pending_error m s (pendi
 
 abbrev pub cut_cause : CutRefusal → PathCause
 cut_cause e = record { code = e.code; back = e.back; shown = e.shown }
+
+-- How a script is read, as `Feeding` is of any language: the causes of what is refused at a byte, where the node ends in it, and where it ends itself.
+-- `may_end` says whether an end tag may end it. The script of one path is read so, and the scripts of all paths at a place together.
+pub record ScriptFeeding (S : Type 0) : Type 0 where
+  pub feed : S → ℕ → S
+  pub refuses : S → ℕ → Option Cause
+  pub refuses_cut : S → Option Cause
+  pub refuses_end : S → Option Cause
+  pub may_end : S → Bool
+
+-- of one path: `element` says whether it is that of an element
+abbrev pub script_reading_in : (element : Bool) → ScriptFeeding ScriptState
+script_reading_in element = record {
+  feed = feed_script;
+  refuses = script_refuses element;
+  refuses_cut = script_refuses_cut;
+  refuses_end = refuses_end;
+  may_end = script_may_end;
+}
+
+abbrev pub one_script : ScriptFeeding ScriptState
+one_script = script_reading_in false
+
+abbrev pub element_script : ScriptFeeding ScriptState
+element_script = script_reading_in true
+
+-- In an element each byte stands at its own place: a cause that is known at a byte which stands so many bytes before the one at hand. So it is of bytes
+-- that the script reads at once, of the last of which that is said.
+abbrev pub script_cause_back : ℕ → Option Cause → Option PathCause
+script_cause_back n None = None
+script_cause_back n (Some e) = Some (record { code = script_code e.refusal; back = e.back + n; shown = e.shown + n })
+
+abbrev pub script_read : {S : Type 0} → ScriptFeeding S → S → List ℕ → S
+script_read m s [] = s
+script_read m s (b ∷ bs) = script_read m (m.feed s b) bs
+
+abbrev pub read_error : {S : Type 0} → ScriptFeeding S → S → List ℕ → ℕ → Option PathCause
+read_error m s [] n = None
+read_error m s (b ∷ bs) n = first_cause (script_cause_back (length bs + n) (m.refuses s b)) (read_error m (m.feed s b) bs n)
+
+-- A `<` that is held back is asked at once whether the script refuses it: behind a slash of which it is not known what it is, it does, whatever comes behind
+-- the `<`. So nothing is pending behind such a slash.
+abbrev pub step_asks : List ℕ → Pending → List ℕ
+step_asks bytes PendingLess = bytes ++ codes "<"
+step_asks bytes h = bytes
+
+-- where the last of these bytes stands, before the byte at hand
+abbrev pub asks_back : Pending → ℕ
+asks_back PendingLess = 0
+asks_back h = length (pending_bytes h)
+
+-- The script that an end tag ends is judged as that of a value is.
+abbrev pub step_error : {S : Type 0} → ScriptFeeding S → S → ScriptStep → Option PathCause
+step_error m s (Reads bytes h) = read_error m s (step_asks bytes h) (asks_back h)
+step_error m s (EndsContent letters) = script_cause_back (length letters + 2) (m.refuses_end s)
+
+abbrev pub script_content_error : {S : Type 0} → ScriptFeeding S → Element → S → Pending → Class → ℕ → Option PathCause
+script_content_error m e s h c b = step_error m s (script_step (m.may_end s) e h c b)
+
+-- at the end of a node what is pending is read
+abbrev pub script_content_cut_error : {S : Type 0} → ScriptFeeding S → S → Pending → Option PathCause
+script_content_cut_error m s h =
+    first_cause (read_error m s (pending_bytes h) 1) (script_cause_back 0 (m.refuses_cut (script_read m s (pending_bytes h))))
+
+-- the content of an element that a language reads, on one path
+abbrev pub language_content_error : Element → ValueState → Pending → Class → ℕ → Option PathCause
+language_content_error e (OfScript s) h c b = script_content_error element_script e s h c b
+language_content_error e v h c b = content_byte_error (language_feeding languages) e v h c b
+
+abbrev pub language_cut_error : ValueState → Pending → Option PathCause
+language_cut_error (OfScript s) h = script_content_cut_error element_script s h
+language_cut_error v h = content_end_cut_error (language_feeding languages) (λ s. option_map cut_cause (languages.refuses_less s)) v h
 
 -- the tag where a value ends
 abbrev pub ending_tag : {B : Type 0} → ValueLanguage B → Tag → Value B → Reference → Tag
@@ -297,8 +359,7 @@ byte_error (AfterAttributeValue t) c b = at_hand (tag_error (tag_spot t only_bef
 byte_error (SelfClosingStartTag t) c b = at_hand (tag_error (tag_spot t only_before None) c)
 byte_error (InContent e (Characters r) h) c b = None
 byte_error (InContent e Bytes h) c b = block_byte_error h c
-byte_error (InContent e (InLanguage v) h) c b = content_byte_error (language_feeding languages) e v h c b
-byte_error Unread c b = at_hand (Some code.NotBuilt)
+byte_error (InContent e (InLanguage v) h) c b = language_content_error e v h c b
 
 -- A node that ends: a second `type`, the value of a type, and in a data block what its end tag begins with.
 abbrev pub begun_cut_error : Kind → Option Code
@@ -330,8 +391,7 @@ cut_error (AfterAttributeValue t) = None
 cut_error (SelfClosingStartTag t) = None
 cut_error (InContent e (Characters r) h) = None
 cut_error (InContent e Bytes h) = block_cut_error h
-cut_error (InContent e (InLanguage v) h) = content_end_cut_error (language_feeding languages) (λ s. option_map cut_cause (languages.refuses_less s)) v h
-cut_error Unread = None
+cut_error (InContent e (InLanguage v) h) = language_cut_error v h
 
 -- What the language of a value or a content refuses at the end of a node, as a lexeme that has begun.
 abbrev pub lexeme_error : LexState ValueState → Option Code
@@ -371,7 +431,7 @@ hole_error (place.Comment dash) = None
 hole_error (place.Rcdata e) = None
 hole_error (place.Tag t) = if t.spots.name || t.spots.inside then Some code.SplitToken else None
 hole_error (place.Value v) = body_hole_error v.body
-hole_error (place.Script js) = Some code.NotBuilt
+hole_error (place.Script js) = None
 hole_error (place.Style c) = css_hole_error c
 hole_error (place.Block lt) = if lt then Some code.SplitToken else None
 
@@ -427,17 +487,6 @@ cut_places k r = placed_bytes true (k - length (as_it_stands r)) (as_it_stands r
 abbrev pub places_with : List FedByte → List ℕ → List ℕ
 places_with [] before = before
 places_with (x ∷ xs) before = places_with xs (x.place ∷ before)
-
--- How a script is read, as `Feeding` is of any language: the causes of what is refused at a byte, where the node ends in it, and where its value ends.
--- The script of one path is read so, and the scripts of all paths at a place together.
-pub record ScriptFeeding (S : Type 0) : Type 0 where
-  pub feed : S → ℕ → S
-  pub refuses : S → ℕ → Option Cause
-  pub refuses_cut : S → Option Cause
-  pub refuses_end : S → Option Cause
-
-abbrev pub one_script : ScriptFeeding ScriptState
-one_script = record { feed = feed_script; refuses = script_refuses false; refuses_cut = script_refuses_cut; refuses_end = refuses_end }
 
 abbrev pub script_fed : {S : Type 0} → ScriptFeeding S → S → List FedByte → S
 script_fed m s [] = s
@@ -604,12 +653,17 @@ pending_before e (PendingName letters) c b =
     unless_it_goes_on (name_goes_on (may_be_name_of e (letters ++ b ∷ [])) (is_name_of e letters) c) (PendingName letters)
 pending_before e h c b = h
 
+-- in a script it is shown within more lexemes than a node may end in
+abbrev pub content_before : Element → ValueState → Pending → Option Place
+content_before e (OfScript s) h = option_map place.Script (script_js_before (script_read element_script s (pending_bytes h)))
+content_before e v h = placed (at_cut languages (InContent e (InLanguage v) h))
+
 abbrev pub place_before_bytes : LexState ValueState → List ℕ → Option Place
 place_before_bytes (AttributeValue q t v (Open f bytes)) (b ∷ bs) =
     value_spot t (quotes_at q) (value_body_before (value_before (turn (class_of b) f) v (class_of b) f bytes))
 place_before_bytes (AttributeValue q t v r) bs = value_spot t (quotes_at q) (value_body_before (with_bytes languages v (as_it_stands r)))
-place_before_bytes (InContent e (InLanguage v) h) (b ∷ bs) =
-    placed (at_cut languages (InContent e (InLanguage v) (pending_before e h (class_of b) b)))
+place_before_bytes (InContent e (InLanguage v) h) (b ∷ bs) = content_before e v (pending_before e h (class_of b) b)
+place_before_bytes (InContent e (InLanguage v) h) [] = content_before e v h
 place_before_bytes (AttributeName t name) bs = Some (place.Tag (tag_spot t only_inside (Some (kind_of (element_on t.tag) name))))
 place_before_bytes s bs = placed (at_cut languages s)
 

@@ -161,6 +161,7 @@ sense_at_text a = None
 abbrev pub slash_sense : LexState ValueState → Option Sense
 slash_sense (BeforeAttributeValue t kind.Script) = Some sense.Re
 slash_sense (AttributeValue q t (ValueOf (OfScript s)) r) = sense_at_text s.at
+slash_sense (InContent e (InLanguage (OfScript s)) h) = sense_at_text s.at
 slash_sense s = None
 
 abbrev pub senses_part : Option Sense → Option Sense → Bool
@@ -187,6 +188,7 @@ either_slash_trail a t = record {
   brace = t.brace;
   bracket = t.bracket;
   literal = t.literal;
+  lines = t.lines;
 }
 
 abbrev pub either_slash_script : script.ScriptState → script.ScriptState
@@ -194,6 +196,7 @@ either_slash_script s = record { literals = s.literals; at = with_either_slash s
 
 abbrev pub either_slash : LexState ValueState → LexState ValueState
 either_slash (AttributeValue q t (ValueOf (OfScript s)) r) = AttributeValue q t (ValueOf (OfScript (either_slash_script s))) r
+either_slash (InContent e (InLanguage (OfScript s)) h) = InContent e (InLanguage (OfScript (either_slash_script s))) h
 either_slash s = s
 
 -- Two paths at which a slash would be one thing and the other where a text begins are refused together at such a slash of it.

@@ -1,7 +1,7 @@
 -- The place of one path in a script, as a context has it: the sets are those of that path alone.
 use Rattle.std.specs.Prelude.{ℕ, ◌==◌, ◌||◌, ◌&&◌, not, Bool, true, false, bytes_eq, codes, List, Option, None, option_map, if◌then◌else◌}
 use Rattle.js_lexer.specs.Spots.{Tail, NoTail, WordTail, NumberTail, LessTail, SlashTail, PlusTail, MinusTail, HashTail, Spot, CodeSpot, StringSpot, RegexpSpot, LineSpot, BlockSpot, script_spot, spot_before}
-use Rattle.js_lexer.specs.States.{ScriptEscape, NoEscape, At, Code, Word, Number, Pluses, Minuses, Slash, LineComment, BlockComment, InString, InRegexp, Trail, ScriptState}
+use Rattle.js_lexer.specs.States.{ScriptEscape, NoEscape, At, Code, Word, Number, Pluses, Minuses, Slash, LineComment, BlockComment, InString, InRegexp, PartLines, HasLine, NoLineYet, Trail, ScriptState}
 use Rattle.js_lexer.specs.Trails.{is_empty}
 use Rattle.js_lexer.specs.declared.sense.Sense.{Sense}
 use Rattle.js_lexer.specs.declared.sense.Sense.TheVariants as sense
@@ -63,17 +63,27 @@ may_begin_text_at (InString q e) m = is_no_script_escape e && is_empty m
 may_begin_text_at (InRegexp k e) m = not k && (is_no_script_escape e && is_empty m)
 may_begin_text_at a m = false
 
+abbrev pub is_new_part : PartLines → Bool
+is_new_part (NoLineYet begun) = is_empty begun
+is_new_part HasLine = false
+
 abbrev pub is_trail_of_cut : Trail → Bool
-is_trail_of_cut t = t.fresh && (is_empty t.escape && (t.brace == 0 && (t.bracket == 0 && t.literal == 0)))
+is_trail_of_cut t = t.fresh && (is_empty t.escape && (t.brace == 0 && (t.bracket == 0 && (t.literal == 0 && is_new_part t.lines))))
 
 abbrev pub script_may_begin_text : ScriptState → Bool
 script_may_begin_text s = is_trail_of_cut s.trail && may_begin_text_at s.at s.trail.markup
 
--- the body of a value that is a script, where a text may begin; within a lexeme that no node may end in there is none
-abbrev pub script_body : ScriptState → Option Body
-script_body s = if script_may_begin_text s then option_map (λ p. body.Js (script_place p)) (script_spot s) else None
+-- the script of an element, and the body of a value that is one, where a text may begin; within a lexeme that no node may end in there is none
+abbrev pub script_js : ScriptState → Option Js
+script_js s = if script_may_begin_text s then option_map script_place (script_spot s) else None
 
--- The body that is shown before a byte. Within an escape, a `[ ]` and what may become markup it is that of the string, the regular expression or the
+abbrev pub script_body : ScriptState → Option Body
+script_body s = option_map body.Js (script_js s)
+
+-- What is shown before a byte. Within an escape, a `[ ]` and what may become markup it is that of the string, the regular expression or the
 -- code, though no text may end there. In a template literal there is none: shown is the last one before it.
+abbrev pub script_js_before : ScriptState → Option Js
+script_js_before s = option_map script_place (spot_before s)
+
 abbrev pub script_body_before : ScriptState → Option Body
-script_body_before s = option_map (λ p. body.Js (script_place p)) (spot_before s)
+script_body_before s = option_map body.Js (script_js_before s)

@@ -1,9 +1,9 @@
 -- The place of a path: what is kept of the state that it has come to. Inside a lexeme, such as a name or a reference, it has none.
 use Rattle.std.specs.Prelude.{Bool, true, false, Option, Some, None, option_map, if◌then◌else◌}
 use Rattle.place_core.specs.page.References.{Reference, Closed, Open}
-use Rattle.place_core.specs.page.States.{LexState, Text, TagOpen, EndTagOpen, DeclarationOpen, CommentState, Started, StartedDash, Inside, Dash, DashDash, Bang, Broken, InComment, BogusComment, InDoctype, TagName, WholeTagName, BeforeAttributeName, AttributeName, WholeAttributeName, AfterAttributeName, BeforeAttributeValue, AttributeValue, AfterAttributeValue, SelfClosingStartTag, Content, Characters, Bytes, InLanguage, Pending, Nothing, LessAtCut, InContent, Unread}
+use Rattle.place_core.specs.page.States.{LexState, Text, TagOpen, EndTagOpen, DeclarationOpen, CommentState, Started, StartedDash, Inside, Dash, DashDash, Bang, Broken, InComment, BogusComment, InDoctype, TagName, WholeTagName, BeforeAttributeName, AttributeName, WholeAttributeName, AfterAttributeName, BeforeAttributeValue, AttributeValue, AfterAttributeValue, SelfClosingStartTag, Content, Characters, Bytes, InLanguage, Pending, Nothing, LessAtCut, InContent}
 use Rattle.place_core.specs.page.Tags.{Tag, is_second_type, Value, ValueOf, Deciding, ValueState, OfKind, OfUrl, OfStyle, OfScript, languages, attribute_value_of, without_value, Quoting, DoubleQuoted, SingleQuoted, Unquoted}
-use Rattle.place_core.specs.place.ScriptParts.{script_body, script_body_before}
+use Rattle.place_core.specs.place.ScriptParts.{script_body, script_body_before, script_js}
 use Rattle.place_core.specs.place.StyleParts.{style_body, style_css}
 use Rattle.place_core.specs.place.UrlParts.{parts_of}
 use Rattle.url_lexer.specs.Spots.{url_spot}
@@ -110,6 +110,7 @@ block_place e lt = None
 
 abbrev pub language_place : Element → ValueState → Option Place
 language_place element.Style (OfStyle s) = option_map place.Style (style_css s)
+language_place element.Script (OfScript s) = option_map place.Script (script_js s)
 language_place e v = None
 
 abbrev pub content_spot : Pending → Content ValueState → Element → Option Place
@@ -138,4 +139,3 @@ placed (AttributeValue q t v r) = where_closed r (value_spot t (quotes_at q) (va
 placed (AfterAttributeValue t) = Some (place.Tag (tag_spot t only_before None))
 placed (SelfClosingStartTag t) = Some (place.Tag (tag_spot t only_before None))
 placed (InContent e y h) = content_spot h y e
-placed Unread = None

@@ -1,4 +1,4 @@
-use Rattle.std.proofs.Common.{◌≡◌, option_map}
+use Rattle.std.proofs.Common.{option_map}
 use Rattle.std.specs.Prelude.{get_or}
 use Rattle.js_step.specs.ScriptScanViews.{script_scan_at}
 use Rattle.html_scan.specs.ClassViews.{class_at}

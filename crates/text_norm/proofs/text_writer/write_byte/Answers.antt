@@ -9,6 +9,7 @@ use Rattle.text_norm.specs.declared.pending.Change.TheVariants as change
 use Rattle.text_norm.specs.declared.pending.WriteProgress.{WriteProgress}
 use Rattle.text_norm.proofs.ChangedSteps.{ends_at_less, ends_in_style, ends_style, escapes, leaves, leaves_pending, less_at, opens, opens_style, solidus_at}
 use Rattle.text_norm.proofs.Kept.{reaches}
+use Rattle.text_norm.proofs.ScriptChanges.{in-script, script-change-is}
 use Rattle.text_norm.proofs.Steps.{byte_at, scan_is, keeps, law_here}
 use Rattle.text_norm.proofs.text_writer.write_byte.Goals as goal
 
@@ -165,3 +166,15 @@ returns-in_ok-push_str-in-EndsInStyleComment c kept =
     let is : change.EndsInStyleComment ≡ change_of (scan_of c.args.text.now c.args.index c.args.progress) (scan_at c.args.text.now (c.args.index + 1) c.next-scan.result) = sym c.in-EndsInStyleComment.is ∙ c.change_of.ensures c.args.text.now c.args.index (c.args.index + 1) in
     let y : WriteProgress = record { scan = c.next-scan.result; reference = None; done = c.args.progress.done } in
     ends_in_style c.args.text.now c.args.index c.args.progress y c.args.out.now c.push_str-in-EndsInStyleComment.new.self kept c.requires.inside scan is refl c.next-scan.ensures.pending refl c.in_ok-push_str-in-EndsInStyleComment.ensures.ok
+
+pub write_in_script-requires-clause-script : goal.write_in_script-requires-clause-script
+write_in_script-requires-clause-script c =
+    let f = scan_of c.args.text.now c.args.index c.args.progress in
+    let g = scan_at c.args.text.now (c.args.index + 1) c.next-scan.result in
+    let is : change.InScript ≡ change_of f g = sym c.in-InScript.is ∙ c.change_of.ensures c.args.text.now c.args.index (c.args.index + 1) in
+    in-script f g (script-change-is (change_of f g) is)
+
+pub write_in_script-requires-clause-scan : goal.write_in_script-requires-clause-scan
+write_in_script-requires-clause-scan c =
+    let class : class_at c.class_of-class.result ≡ class_of (byte_at c.args.text.now c.args.index) = c.class_of-class.ensures ∙ ap (λ (bytes : List ℕ). class_of (get_or bytes c.args.index 0)) c.as_bytes-bytes.ensures.value in
+    scan_is c.as_bytes-bytes.result.now c.args.text.now c.args.index c.args.progress.scan c.next-scan.result c.class_of-class.result c.as_bytes-bytes.ensures.value class c.next-scan.ensures.scan

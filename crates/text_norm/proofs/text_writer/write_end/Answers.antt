@@ -4,10 +4,11 @@ use Rattle.std.specs.Str.{IsCharBoundary}
 use Rattle.html_scan.specs.Slices.{pending}
 use Rattle.place_core.specs.page.References.{as_it_stands}
 use Rattle.text_norm.specs.Scanned.{scan_cut_out}
-use Rattle.text_norm.specs.Kept.{scan_of, reference_of}
+use Rattle.text_norm.specs.Kept.{ending_of, scan_of, reference_of}
 use Rattle.text_norm.specs.declared.pending.Ending.TheVariants as ending
 use Rattle.text_norm.proofs.ChangedSteps.{IsLessAt, ends_at_less, less_at}
 use Rattle.text_norm.proofs.EndLaws.{end_bytes, end_here}
+use Rattle.text_norm.proofs.ScriptChanges.{ends-in-script, script-ending-is}
 use Rattle.text_norm.proofs.text_writer.write_end.Goals as goal
 
 on_ok : {T E : Type 0} (result : Result T E) (P Q : Type 0) → (P → Q) → OnOk result P → OnOk result Q
@@ -81,3 +82,9 @@ pub returns-in-Loose : goal.returns-in-Loose
 returns-in-Loose c kept =
     let here = end_here ending.Loose c.args.text.now (length c.args.text.now) c.args.progress c.requires.kept (sym c.in-Loose.is ∙ c.ending_at.ensures c.args.text.now (length c.args.text.now)) in
     subst (λ (bytes : List ℕ). OnOk c.write_free.result (c.write_free.new.out ≡ c.args.out.now ++ (kept.free ++ bytes))) (sym here.out) (c.write_free.ensures kept)
+
+pub write_script_end-requires-clause-script : goal.write_script_end-requires-clause-script
+write_script_end-requires-clause-script c =
+    let f = scan_of c.args.text.now (length c.args.text.now) c.args.progress in
+    let is : ending.InScript ≡ ending_of f = sym c.in-InScript.is ∙ c.ending_at.ensures c.args.text.now (length c.args.text.now) in
+    ends-in-script f (script-ending-is (ending_of f) is)

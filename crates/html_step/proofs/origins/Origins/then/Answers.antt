@@ -1,7 +1,7 @@
 use Rattle.std.proofs.Common.{◌≡◌, ◌∙◌, ℕ, List, set, sym, ap, subst, arith}
 use Rattle.std.proofs.lemmas.List.{length-set}
 use Rattle.std.proofs.lemmas.List.Edits.{fill_by_more}
-use Rattle.std.specs.Prelude.{slice_index_or}
+use Rattle.std.specs.Prelude.{get_or, slice_index_or}
 use Rattle.html_scan.specs.ClassViews.{class_at}
 use Rattle.html_scan.specs.ScanViews.{scan_at}
 use Rattle.html_step.proofs.OriginSteps.{member-at, number-below}
@@ -25,9 +25,9 @@ loop-number-preserved c =
     record {
       count = length-set before i v ∙ count;
       origins = λ n lt. (
-          let f : ℕ → Member = λ m. origin_at fed (behind_origin (scan_at text k c.args.scan) (class_at c.args.class) (slice_index_or all_members m member.Whole)) in
+          let f : ℕ → Member = λ m. origin_at fed (behind_origin (scan_at text k c.args.scan) (class_at c.args.class) (get_or text k 0) (slice_index_or all_members m member.Whole)) in
           let is : v ≡ f i = c.of.ensures ∙ ap (origin_at fed) c.behind_origin.ensures
-          ∙ ap (λ (xs : List Member). origin_at fed (behind_origin (scan_at text k c.args.scan) (class_at c.args.class) (slice_index_or xs i member.Whole))) c.members-members.ensures in
+          ∙ ap (λ (xs : List Member). origin_at fed (behind_origin (scan_at text k c.args.scan) (class_at c.args.class) (get_or text k 0) (slice_index_or xs i member.Whole))) c.members-members.ensures in
           subst (λ (w : Member). slice_index_or (set before i w) n member.Whole ≡ f n) (sym is)
           (fill_by_more f before i member.Whole (omega (arith, count, below)) (λ m less. inv.origins m less) n lt));
     }
@@ -39,5 +39,5 @@ returns c = λ y.
     let text = c.args.text.now in
     let k = c.args.index in
     c.loop-number.invariant.origins (member_number y) (omega (arith, below, end))
-    ∙ member-at (λ m. origin_at c.behind_byte-fed.result (behind_origin (scan_at text k c.args.scan) (class_at c.args.class) m)) y
-    ∙ c.behind_byte-fed.ensures (behind_origin (scan_at text k c.args.scan) (class_at c.args.class) y)
+    ∙ member-at (λ m. origin_at c.behind_byte-fed.result (behind_origin (scan_at text k c.args.scan) (class_at c.args.class) (get_or text k 0) m)) y
+    ∙ c.behind_byte-fed.ensures (behind_origin (scan_at text k c.args.scan) (class_at c.args.class) (get_or text k 0) y)
