@@ -5,9 +5,10 @@ use Rattle.page_tool.specs.Asking.{command_asked}
 use Rattle.page_tool.specs.Checking.{CheckCause}
 use Rattle.page_tool.specs.Devices.{Devices}
 use Rattle.page_tool.specs.Explaining.{ExplainCause}
+use Rattle.page_tool.specs.Making.{MakeCause}
 use Rattle.page_tool.specs.Output.{StatusCause}
 use Rattle.page_tool.specs.Runs.{Runs}
-use Rattle.page_tool.specs.Words.{Command, no_command, check, render, explain, is_command}
+use Rattle.page_tool.specs.Words.{Command, no_command, check, render, explain, make, is_command}
 use Rattle.page_tool.specs.declared.asked.Asked.{Asked}
 use Rattle.page_tool.specs.declared.asked.Asked.TheVariants as asked
 use Rattle.page_tool.specs.declared.status.Status.{Status}
@@ -17,6 +18,7 @@ asked_is : (a : Asked) → is_command (command_asked a) ≡ true
 asked_is (asked.Check dir) = refl
 asked_is (asked.Render dir root) = refl
 asked_is (asked.Explain dir root) = refl
+asked_is (asked.Make sections) = refl
 
 -- a command does not end as words that are none
 no_usage : (command : Command) (before after : Devices) (s : Status) → is_command command ≡ true → Runs command before after s → s ≡ status.Usage → ⊥
@@ -24,6 +26,7 @@ no_usage no_command before after s is r e = absurd (true≢false (sym is))
 no_usage (check dir) before after s is r e = subst (λ (x : Status). CheckCause before.held dir x) e r.cause
 no_usage (render dir root) before after s is r e = subst (λ (x : Status). StatusCause before.held before.left dir root x) e r.cause
 no_usage (explain dir root) before after s is r e = subst (λ (x : Status). ExplainCause before.held dir root x) e r.cause
+no_usage (make sections) before after s is r e = subst (λ (x : Status). MakeCause sections x) e r.cause
 
 pub asked_usage : (a : Asked) (known : Command) (before after : Devices) (s : Status) → command_asked a ≡ known → Runs (command_asked a) before after s
     → (s ≡ status.Usage) ↔ (known ≡ no_command)

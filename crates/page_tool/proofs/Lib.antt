@@ -3,8 +3,11 @@ pub mod CheckStatuses
 pub mod Endings
 pub mod Exacts
 pub mod ExplainStatuses
+pub mod MadeTexts
+pub mod MakeStatuses
 pub mod Pages
 pub mod Parsing
 pub mod Renderings
+pub mod SectionSteps
 pub mod SetLaws
 pub mod Statuses

@@ -10,7 +10,8 @@ use Rattle.clap.specs.Takes.{takes}
 use Rattle.clap.specs.Walk.{Text}
 use Rattle.clap.proofs.OnLiterals.{clap_on_literals}
 use Rattle.page_tool.specs.Program.{command_in, program_app}
-use Rattle.page_tool.specs.Words.{Command, no_command, check, render, explain, is_command, is_option, command_on, command_at, command_of}
+use Rattle.page_tool.specs.Words.{Command, no_command, check, render, explain, making, sections_in, is_command, is_option}
+use Rattle.page_tool.specs.Words.{command_by, command_making, command_at, command_of}
 
 -- a word that `clap` reads as a value
 record IsPlain (word : Text) : Type 0 where
@@ -57,15 +58,29 @@ explain_read : (dir root : Text) → IsPlain dir → IsPlain root
 unfolding clap_on_literals
 explain_read dir root d r = rw (d.dashes, d.long, d.short, r.dashes, r.long, r.short) refl
 
+make_taken : (word : Text) → IsPlain word → takes program_app (codes "make" ∷ word ∷ []) ≡ true
+unfolding clap_on_literals
+make_taken word d = rw (d.dashes, d.long, d.short) refl
+
+make_read : (word : Text) → IsPlain word → command_in (subcommand_of program_app (codes "make" ∷ word ∷ [])) ≡ making (sections_in word)
+unfolding clap_on_literals
+make_read word d = rw (d.dashes, d.long, d.short) refl
+
 -- a name is this word
 named : (name word : Text) → bytes_eq name word ≡ true → name ≡ word
 named name word e = (bytes_eq-Decides name word).0 e
 
-on_check : (name dir : Text) (b : Bool) → bytes_eq name (codes "check") ≡ b → IsPlain dir
-    → is_command (cond b (check dir) no_command) ≡ true
-    → IsRead (name ∷ dir ∷ []) (cond b (check dir) no_command)
-on_check name dir true e d is = rw (named name _ e) (record { taken = check_taken dir d; read = check_read dir d })
-on_check name dir false e d is = absurd (true≢false (sym is))
+on_make : (name word : Text) (b : Bool) → bytes_eq name (codes "make") ≡ b → IsPlain word
+    → is_command (cond b (making (sections_in word)) no_command) ≡ true
+    → IsRead (name ∷ word ∷ []) (cond b (making (sections_in word)) no_command)
+on_make name word true e d is = rw (named name _ e) (record { taken = make_taken word d; read = make_read word d })
+on_make name word false e d is = absurd (true≢false (sym is))
+
+on_check : (name word : Text) (b : Bool) → bytes_eq name (codes "check") ≡ b → IsPlain word
+    → is_command (cond b (check word) (command_making name word)) ≡ true
+    → IsRead (name ∷ word ∷ []) (cond b (check word) (command_making name word))
+on_check name word true e d is = rw (named name _ e) (record { taken = check_taken word d; read = check_read word d })
+on_check name word false e d is = on_make name word (bytes_eq name (codes "make")) refl d is
 
 on_explain : (name dir root : Text) (b : Bool) → bytes_eq name (codes "explain") ≡ b → IsPlain dir → IsPlain root
     → is_command (cond b (explain dir root) no_command) ≡ true
@@ -80,10 +95,10 @@ at_root : (name dir root : Text) (b : Bool) → bytes_eq name (codes "render") �
 at_root name dir root true e d r is = rw (named name _ e) (record { taken = render_taken dir root d r; read = render_read dir root d r })
 at_root name dir root false e d r is = on_explain name dir root (bytes_eq name (codes "explain")) refl d r is
 
-one_word : (name dir : Text) (b : Bool) → is_option dir ≡ b → is_command (cond b no_command (command_on name dir)) ≡ true
-    → IsRead (name ∷ dir ∷ []) (cond b no_command (command_on name dir))
-one_word name dir true e is = absurd (true≢false (sym is))
-one_word name dir false e is = on_check name dir (bytes_eq name (codes "check")) refl (plain dir e) is
+one_word : (name word : Text) (b : Bool) → is_option word ≡ b → is_command (cond b no_command (command_by name word)) ≡ true
+    → IsRead (name ∷ word ∷ []) (cond b no_command (command_by name word))
+one_word name word true e is = absurd (true≢false (sym is))
+one_word name word false e is = on_check name word (bytes_eq name (codes "check")) refl (plain word e) is
 
 two_words : (name dir root : Text) (b c : Bool) → is_option dir ≡ b → is_option root ≡ c
     → is_command (cond (b || c) no_command (command_at name dir root)) ≡ true
@@ -96,7 +111,7 @@ two_words name dir root false false e f is = at_root name dir root (bytes_eq nam
 command_read : (words : List Text) → is_command (command_of words) ≡ true → IsRead words (command_of words)
 command_read [] is = absurd (true≢false (sym is))
 command_read (name ∷ []) is = absurd (true≢false (sym is))
-command_read (name ∷ dir ∷ []) is = one_word name dir (is_option dir) refl is
+command_read (name ∷ word ∷ []) is = one_word name word (is_option word) refl is
 command_read (name ∷ dir ∷ root ∷ []) is = two_words name dir root (is_option dir) (is_option root) refl refl is
 command_read (name ∷ dir ∷ root ∷ more ∷ rest) is = absurd (true≢false (sym is))
 
@@ -117,3 +132,7 @@ pub pair_some : {X A B : Type 0} (o : Option X) (f : X → A) (g : X → B) (a :
     → Some b ≡ option_map (λ p. p.1) (option_map {U = A × B} (λ x. (f x, g x)) o) → option_map {U = A × B} (λ x. (f x, g x)) o ≡ Some (a, b)
 pair_some None f g a b e h = absurd (true≢false (ap (λ o. Rattle.std.specs.Option.is_some o) e))
 pair_some (Some x) f g a b e h = ap₂ (λ u v. Some (u, v)) (sym (ap (λ o. unwrap_or o a) e)) (sym (ap (λ o. unwrap_or o b) h))
+
+-- equal values of three variables
+pub ap_three : {A B C D : Type 0} (f : A → B → C → D) (a x : A) (b y : B) (c z : C) → a ≡ x → b ≡ y → c ≡ z → f a b c ≡ f x y z
+ap_three f a x b y c z p q r = rw (p, q, r) refl

@@ -9,8 +9,10 @@ pub mod Files
 pub mod Input
 pub mod Lines
 pub mod LoadedSets
+pub mod Making
 pub mod Output
 pub mod Program
 pub mod Runs
+pub mod Sections
 pub mod SetTexts
 pub mod Words

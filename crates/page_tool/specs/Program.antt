@@ -2,7 +2,7 @@
 use Rattle.std.specs.Prelude.{codes, List, [], Option, Some, None, true}
 use Rattle.clap.specs.Simple.{App, Shape, new_app, new_rule, new_shape, with_rule, with_subcommand}
 use Rattle.clap.specs.Walk.{Row, Rule, Text, first_of}
-use Rattle.page_tool.specs.Words.{Command, no_command, command_on, command_at}
+use Rattle.page_tool.specs.Words.{Command, no_command, command_on, command_making, command_at}
 
 -- a word that a command must have
 abbrev pub word_rule : Text → Rule
@@ -29,19 +29,30 @@ bare_shape = record (new_shape (codes "page")) {
 abbrev pub bare_app : App
 bare_app = record { top = bare_shape; subs = [] }
 
--- the program
-abbrev pub program_app : App
-program_app =
+-- the command of a number of sections
+abbrev pub sections_app : Text → App
+sections_app name = with_rule (new_app name) (word_rule (codes "N"))
+
+-- the program with the commands of directories
+abbrev pub directories_app : App
+directories_app =
     with_subcommand (with_subcommand (with_subcommand bare_app (directory_app (codes "check")).top)
     (root_app (codes "render")).top) (root_app (codes "explain")).top
 
--- the command of this name, with the values of `DIR` and `NAME`
-abbrev pub command_with : Text → Option Text → Option Text → Command
-command_with name (Some dir) None = command_on name dir
-command_with name (Some dir) (Some root) = command_at name dir root
-command_with name None root = no_command
+-- the program
+abbrev pub program_app : App
+program_app = with_subcommand directories_app (sections_app (codes "make")).top
+
+-- the command of this name, with the values of `DIR` or `N`, and of `NAME`
+abbrev pub command_with : Text → Option Text → Option Text → Option Text → Command
+command_with name (Some dir) None None = command_on name dir
+command_with name (Some dir) None (Some root) = command_at name dir root
+command_with name None (Some number) None = command_making name number
+command_with name _ _ _ = no_command
 
 -- the command that the matches of a subcommand are
 abbrev pub command_in : Option (Text × List Row) → Command
 command_in None = no_command
-command_in (Some p) = command_with p.0 (first_of (codes "DIR") p.1) (first_of (codes "NAME") p.1)
+command_in (Some p) =
+    command_with p.0 (first_of (codes "DIR") p.1) (first_of (codes "N") p.1)
+    (first_of (codes "NAME") p.1)

@@ -2,16 +2,17 @@ ghost use Rattle.std.specs.Prelude.{◌≡◌, true, IfOk, option_map};
 ghost use Rattle.clap.specs.Words.{subcommand_rows_of};
 ghost use Rattle.page_tool.specs.Asking.{ReadWordsAnswers, command_asked, command_asked_or_none};
 ghost use Rattle.page_tool.specs.Program.{command_in, command_with};
-ghost use Rattle.page_tool.specs.Words.{texts, command_of, is_command};
+ghost use Rattle.page_tool.specs.Words.{texts, command_of, is_command, making};
+ghost use Rattle.page_tool.specs.Words as spec;
 
 use crate::program::program;
-use crate::words::are_command;
+use crate::words::{are_command, sections_in};
 use clap::ArgMatches;
 use clap::error::ErrorKind;
 use page_io::Memory;
 use std::alloc::Global;
 
-/// A command, with its directory and the name of its root.
+/// A command, with its directory and the name of its root, or with a number of sections.
 #[derive(Clone, Copy)]
 pub enum Asked<'a> {
     /// `check DIR`.
@@ -20,6 +21,8 @@ pub enum Asked<'a> {
     Render { dir: &'a str, root: &'a str },
     /// `explain DIR NAME`.
     Explain { dir: &'a str, root: &'a str },
+    /// `make N`.
+    Make { sections: u32 },
 }
 
 /// Why words are not read.
@@ -69,18 +72,38 @@ fn asked_in<'a>(matches: &ArgMatches<'a>) -> Option<Asked<'a>>
     ensures { command_asked_or_none result ≡ command_in (subcommand_rows_of matches.now) }
 {
     let (name, values) = matches.subcommand()?;
-    asked_with(name, values.get_str("DIR"), values.get_str("NAME"))
+    let (dir, number, root) = (
+        values.get_str("DIR"),
+        values.get_str("N"),
+        values.get_str("NAME"),
+    );
+    asked_with(name, dir, number, root)
 }
 
 // The command of a name and these words, if there is one.
-fn asked_with<'a>(name: &str, dir: Option<&'a str>, root: Option<&'a str>) -> Option<Asked<'a>>
+fn asked_with<'a>(
+    name: &str,
+    dir: Option<&'a str>,
+    number: Option<&'a str>,
+    root: Option<&'a str>,
+) -> Option<Asked<'a>>
     ensures { command_asked_or_none result ≡ command_with name.now
-        (option_map (λ dir. dir.now) dir.entry) (option_map (λ root. root.now) root.entry) }
+        (option_map (λ dir. dir.now) dir.entry) (option_map (λ number. number.now) number.entry)
+        (option_map (λ root. root.now) root.entry) }
 {
-    match (name, dir, root) {
-        ("check", Some(dir), None) => Some(Asked::Check { dir }),
-        ("render", Some(dir), Some(root)) => Some(Asked::Render { dir, root }),
-        ("explain", Some(dir), Some(root)) => Some(Asked::Explain { dir, root }),
+    match (name, dir, number, root) {
+        ("check", Some(dir), None, None) => Some(Asked::Check { dir }),
+        ("render", Some(dir), None, Some(root)) => Some(Asked::Render { dir, root }),
+        ("explain", Some(dir), None, Some(root)) => Some(Asked::Explain { dir, root }),
+        ("make", None, Some(number), None) => asked_to_make(number),
         _ => None,
     }
+}
+
+// The command that makes as many sections as a word says, if it is a number of sections.
+fn asked_to_make<'a>(number: &str) -> Option<Asked<'a>>
+    ensures { command_asked_or_none result ≡ making (spec.sections_in number.now) }
+{
+    let sections = sections_in(number)?;
+    Some(Asked::Make { sections })
 }

@@ -2,14 +2,22 @@
 ghost use Rattle.std.specs.Prelude.{◌≡◌, IfOk, false};
 ghost use Rattle.clap.specs.Words.{app_of, rule_of};
 ghost use Rattle.clap.specs.declared.builder.Command.TheViews.{out-Command as fields_of};
-ghost use Rattle.page_tool.specs.Program.{bare_app, directory_app, program_app, root_app, word_rule};
+ghost use Rattle.page_tool.specs.Program.{bare_app, directories_app, directory_app, program_app, root_app, sections_app, word_rule};
 
 use clap::{Arg, Command};
 use std::alloc::{AllocError, Global};
 
-/// The program, with a subcommand for each of its commands, whose words are `DIR` and `NAME`.
+/// The program, with a subcommand for each of its commands, whose words are `DIR` and `NAME`,
+/// or `N`.
 pub fn program<'a>(alloc: Global) -> Result<Command<'a>, AllocError>
     ensures { IfOk result (λ program. app_of program ≡ program_app) }
+{
+    on_directories(alloc)?.subcommand(on_sections(alloc, "make")?)
+}
+
+// The program with the commands of directories.
+fn on_directories<'a>(alloc: Global) -> Result<Command<'a>, AllocError>
+    ensures { IfOk result (λ program. app_of program ≡ directories_app) }
 {
     bare(alloc)
         .subcommand(on_directory(alloc, "check")?)?
@@ -44,6 +52,14 @@ fn on_root<'a>(alloc: Global, name: &'a str) -> Result<Command<'a>, AllocError>
     ensures local { IfOk result (λ command. (fields_of command).has_globals ≡ false) }
 {
     on_directory(alloc, name)?.arg(word(alloc, "NAME"))
+}
+
+// A command of a number of sections.
+fn on_sections<'a>(alloc: Global, name: &'a str) -> Result<Command<'a>, AllocError>
+    ensures app { IfOk result (λ command. app_of command ≡ sections_app name.entry.now) }
+    ensures local { IfOk result (λ command. (fields_of command).has_globals ≡ false) }
+{
+    Command::new(alloc, name).arg(word(alloc, "N"))
 }
 
 // A word that a command must have.

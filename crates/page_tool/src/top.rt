@@ -8,6 +8,7 @@ ghost use Rattle.page_tool.specs.Words.{texts, command_of, no_command};
 use crate::asked::{Asked, WordsRefused, read_words};
 use crate::check::check;
 use crate::explain::explain;
+use crate::make::make;
 use crate::render::render;
 use crate::report::say;
 use crate::status::Status;
@@ -56,7 +57,7 @@ pub fn run<F: Folder, I: Source, O: Sink, E: Sink>(
         Err(WordsRefused::Usage) => {
             say(
                 err,
-                "usage: check DIR | render DIR NAME | explain DIR NAME\n",
+                "usage: check DIR | render DIR NAME | explain DIR NAME | make N\n",
             );
             return (Status::Usage, folder);
         }
@@ -92,5 +93,6 @@ fn run_asked<F: Folder, I: Source, O: Sink, E: Sink>(
         Asked::Check { dir } => check(alloc, folder, out, err, dir),
         Asked::Render { dir, root } => render(alloc, folder, input, out, err, dir, root),
         Asked::Explain { dir, root } => explain(alloc, folder, out, err, dir, root),
+        Asked::Make { sections } => make(alloc, out, err, sections),
     }
 }

@@ -1,19 +1,28 @@
-ghost use Rattle.std.specs.Prelude.{◌≡◌, []};
-ghost use Rattle.page_tool.specs.Words.{texts, command_at, command_of, is_command};
+ghost use Rattle.std.specs.Prelude.{◌≡◌, ◌≤◌, []};
+ghost use Rattle.page_tool.specs.Words.{texts, command_at, command_by, command_of, is_command, sections_in, takes_digit};
 ghost use Rattle.page_tool.specs.Words as spec;
 
-/// Whether words are a command: its name, and its directory or a root of one, none of which begins
-/// with `-`.
+/// The most sections that are made.
+const MAX_SECTIONS: u32 = 10_000;
+
+/// Whether words are a command: its name, and its directory, a root of one or a number of sections,
+/// none of which begins with `-`.
 pub fn are_command(words: &[String]) -> bool
     ensures { result ≡ is_command (command_of (texts words.now)) }
 {
     match words {
-        [name, dir] => !is_option(dir.as_str()) && name.as_str() == "check",
+        [name, word] => !is_option(word.as_str()) && takes_word(name.as_str(), word.as_str()),
         [name, dir, root] => {
             !is_option(dir.as_str()) && !is_option(root.as_str()) && takes_root(name.as_str())
         }
         _ => false,
     }
+}
+
+fn takes_word(name: &str, word: &str) -> bool
+    ensures { result ≡ is_command (command_by name.now word.now) }
+{
+    name == "check" || (name == "make" && sections_in(word).is_some())
 }
 
 fn takes_root(name: &str) -> bool
@@ -30,4 +39,26 @@ fn is_option(word: &str) -> bool
         Some(byte) => *byte == b'-',
         None => false,
     }
+}
+
+/// The number of sections that a word is: from 1 to the most, in decimal digits alone.
+pub fn sections_in(word: &str) -> Option<u32>
+    ensures { result ≡ sections_in word.now }
+{
+    let mut sections = 0;
+    for byte in word.as_bytes() {
+        if !takes_digit(sections, *byte) {
+            return None;
+        }
+        sections = sections * 10 + (*byte - b'0') as u32;
+    }
+    if 0 < sections { Some(sections) } else { None }
+}
+
+// Whether a byte is a digit, with which the number is no greater than that of the most sections.
+fn takes_digit(sections: u32, byte: u8) -> bool
+    requires { sections ≤ 10000 }
+    ensures { result ≡ takes_digit sections byte }
+{
+    b'0' <= byte && byte <= b'9' && sections * 10 + (byte - b'0') as u32 <= MAX_SECTIONS
 }

@@ -8,3 +8,8 @@ returns-in-Check-clause-runs g c =
 pub returns-in-Explain-clause-runs : goal.returns-in-Explain-clause-runs
 returns-in-Explain-clause-runs g c =
     branch_runs _ _ _ _ _ c.in-Explain.is (c.explain.ensures (g.I.Source.left c.args.input.now) (g.I.Source.faults c.args.input.now))
+
+pub returns-in-Make-clause-runs : goal.returns-in-Make-clause-runs
+returns-in-Make-clause-runs g c =
+    branch_runs _ _ _ _ _ c.in-Make.is (c.make.ensures (g.F.Folder.held c.args.folder.now) (g.F.Folder.faults c.args.folder.now)
+    (g.I.Source.left c.args.input.now) (g.I.Source.faults c.args.input.now))
