@@ -24,7 +24,7 @@ use crate::inference::{pairs_counted, templates_counted};
 use crate::input::input_of;
 use crate::locks::{four_lock, one_locks};
 use crate::looks::{four_look, one_looks};
-use crate::request::{Input, Measured, Request, most, size_named, words_named};
+use crate::request::{Input, Measured, Measurement, most, size_named, words_named};
 use crate::whole_page::{data_of, page_counted};
 use html_step::{after_text, print_place};
 use html_words::RefChars;
@@ -86,7 +86,7 @@ fn main(rt: HostRuntime) -> ExitCode {
 }
 
 // What the words ask for, or nothing where they are others.
-fn requested<R: env::Env + AllocGlobal>(rt: &R) -> Result<Option<Request>, AllocError>
+fn requested<R: env::Env + AllocGlobal>(rt: &R) -> Result<Option<Measurement>, AllocError>
     ensures { IfOk result (λ request. IfSome request (λ words. words.size ≤ most_of words.call)) }
 {
     let mut args = match env::args(rt) {
@@ -100,7 +100,7 @@ fn requested<R: env::Env + AllocGlobal>(rt: &R) -> Result<Option<Request>, Alloc
     };
     match (words_named(word.as_str()), size_named(size.as_str())) {
         (Some((call, input)), Some(size)) if size <= most(call) => {
-            Ok(Some(Request { call, input, size }))
+            Ok(Some(Measurement { call, input, size }))
         }
         _ => Ok(None),
     }

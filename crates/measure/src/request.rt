@@ -111,7 +111,7 @@ pub enum Input {
 
 /// What the words ask for.
 #[derive(Clone, Copy, Debug, PartialEq, Eq)]
-pub struct Request {
+pub struct Measurement {
     pub call: Measured,
     pub input: Input,
     /// The most bytes that the input may have, or how often each thread looks.

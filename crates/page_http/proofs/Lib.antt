@@ -1,0 +1,13 @@
+pub mod Digits
+pub mod Heads
+pub mod Lists
+pub mod Excluding
+pub mod Examples
+pub mod Pushes
+pub mod Fixed
+pub mod Seeking
+pub mod Routing
+pub mod Pairs
+pub mod OneReply
+pub mod Responses
+pub mod AskExamples

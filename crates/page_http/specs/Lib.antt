@@ -1,0 +1,16 @@
+pub mod Fields
+pub mod Numbers
+pub mod Bodies
+pub mod Contents
+pub mod Closing
+pub mod Requests
+pub mod Laws
+pub mod Replies
+pub mod Routes
+pub mod Rows
+pub mod Forms
+pub mod Refusals
+pub mod Asks
+pub mod Pages
+pub mod Answers
+pub mod Responses

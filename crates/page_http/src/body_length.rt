@@ -1,0 +1,52 @@
+ghost use Rattle.std.specs.Prelude.{◌≡◌, ◌≤◌, [], All, codes, length, map};
+ghost use Rattle.std.specs.Str.{bytes_eq};
+ghost use Rattle.httparse.specs.Spans.{header_bytes, IsHeaderWithin};
+ghost use Rattle.page_http.specs.Bodies.{IsKnownRefusal, length_by_values, length_said};
+
+use crate::fields::{Found, find};
+use crate::number::{Number, read_number};
+use crate::read::MAX_BODY;
+use httparse::spans::HeaderSpan;
+
+/// What a head says of the length of the body.
+#[derive(Clone, Copy)]
+pub enum BodyLength {
+    /// It has so many bytes.
+    Bytes(u64),
+    /// The request is refused with this status.
+    Refused(u16),
+}
+
+/// What the method and the fields of a head of `len` bytes say of the length of its body.
+pub fn body_length(buf: &[u8], headers: &[HeaderSpan], len: usize, method: &[u8]) -> BodyLength
+    requires len { len ≤ length buf.now }
+    requires within { All (IsHeaderWithin len) headers.now }
+    ensures value { result ≡ length_said method.now (map (header_bytes buf.now) headers.now) }
+    ensures status { IsKnownRefusal result }
+{
+    match find(buf, headers, len, b"transfer-encoding") {
+        Found::Nothing => {}
+        _ => return BodyLength::Refused(501),
+    }
+    match find(buf, headers, len, b"content-length") {
+        Found::Nothing => without_length(method),
+        Found::Once(value) => match read_number(value, MAX_BODY as u64) {
+            Number::Value(count) => BodyLength::Bytes(count),
+            Number::TooGreat => BodyLength::Refused(413),
+            Number::NotDigits => BodyLength::Refused(400),
+        },
+        Found::Often => BodyLength::Refused(400),
+    }
+}
+
+// The length without a field that says it: a POST has to have one.
+fn without_length(method: &[u8]) -> BodyLength
+    ensures value { result ≡ length_by_values (bytes_eq method.now (codes "POST")) [] }
+    ensures status { IsKnownRefusal result }
+{
+    if method == b"POST".as_slice() {
+        BodyLength::Refused(400)
+    } else {
+        BodyLength::Bytes(0)
+    }
+}
