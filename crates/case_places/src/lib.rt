@@ -10,6 +10,7 @@ mod read_code;
 mod read_member;
 mod read_place;
 mod read_url;
+mod script_parts;
 mod showings;
 mod splitter;
 mod steps;
@@ -19,6 +20,7 @@ mod written;
 
 pub use charts::put_charts;
 pub use explanations::put_explained;
+pub use script_parts::put_script_parts;
 pub use steps::put_places;
 pub use style_parts::put_style_parts;
 pub use url_parts::put_url_parts;

@@ -4,7 +4,8 @@ use case_data::{
 };
 use case_pages::{put_commands, put_pages};
 use case_places::{
-    put_charts, put_explained, put_places, put_style_parts, put_url_parts, put_written,
+    put_charts, put_explained, put_places, put_script_parts, put_style_parts, put_url_parts,
+    put_written,
 };
 use case_table::{CaseOutput, CaseRow, CaseStop, Subject};
 use case_templates::{put_executions, put_files, put_printed, put_symbols, put_tokens, put_trees};
@@ -89,6 +90,7 @@ fn put_of_html(
         "html_step" => put_places(out, call, row),
         "url_step" => put_url_parts(out, call, row),
         "css_step" => put_style_parts(out, call, row),
+        "js_step" => put_script_parts(out, call, row),
         "place_infer" => put_charts(out, call, row),
         "place_explain" => put_explained(out, call, row),
         "text_norm" => put_written(out, call, row),

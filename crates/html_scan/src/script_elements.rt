@@ -1,8 +1,7 @@
 // The content of the element `script`, on all paths together: where a byte leads, and why one is refused. What is pending back, as HTML
 // may read its end tag, is fed to the script where it comes to nothing.
 ghost use Rattle.std.specs.Prelude.{◌≡◌, ◌+◌, ◌<◌, ◌≤◌, ℕ, List, drop, get_or, if◌then◌else◌, length, option_map};
-ghost use Rattle.js_lexer.specs.Trails.{is_empty};
-ghost use Rattle.js_step.specs.ScriptScanViews.{script_literals_at, script_scan_at};
+ghost use Rattle.js_step.specs.ScriptScanViews.{script_scan_at};
 ghost use Rattle.js_step.specs.ScriptScans.{script_scan_place, script_scan_shown, script_scan_start};
 ghost use Rattle.place_core.specs.declared.element.Element.TheVariants as element;
 ghost use Rattle.place_core.specs.declared.place.Place.TheVariants as place;
@@ -25,7 +24,7 @@ use crate::scripts::{after_byte, after_bytes, begun};
 use crate::slices::pending;
 use crate::style_elements::end_tag_goes_on;
 use crate::tags::before_name;
-use js_step::{ScriptAt, ScriptLiterals, ScriptScan};
+use js_step::{ScriptAt, ScriptScan, is_outside};
 use place_core::{Element, Js, Place, TagOf};
 
 /// At a place in it.
@@ -107,14 +106,6 @@ pub fn may_end(script: ScriptScan) -> bool
         | ScriptAt::TooDeep => false,
         _ => true,
     }
-}
-
-// Whether no template literal is open.
-#[tactic(auto, using(js_step::proofs::OpenLiterals::literal_rules))]
-fn is_outside(literals: ScriptLiterals) -> bool
-    ensures { result ≡ is_empty (script_literals_at literals) }
-{
-    literals.free >= 16
 }
 
 /// What is pending back begins with this, but for its letters.

@@ -30,7 +30,7 @@ use Rattle.js_lexer.specs.States.{script_start}
 use Rattle.js_step.specs.ScriptScans.{ScriptScan}
 use Rattle.html_scan.specs.Scans.{Scan, At, InScript, InStyle, InScriptElement, InStyleElement, element_cause, scan_deep_behind, scan_fed_behind, scan_script_cut_refusal, scan_script_refusal, pending_left, style_less_cause, scan_next, scan_error, scan_place, scan_cut_error, scan_lexeme_error, scan_shown, scan_reference, style_feeding, url_scan, with_body, with_style}
 use Rattle.html_step.specs.Laws.{OneBefore, OneText}
-use Rattle.html_step.specs.Steps.{after_text, scan_after, scan_read_behind, stepped, unless_refused, unless_broken_off, unless_script_refused, unless_too_deep, place_before, with_place_before, or_shown, shown_scan}
+use Rattle.html_step.specs.Steps.{after_text, scan_after, scan_read_behind, stepped, unless_refused, unless_broken_off, unless_refused_in_script, unless_too_deep, place_before, with_place_before, or_shown, shown_scan}
 use Rattle.html_step.proofs.ElementSteps.{body-css}
 use Rattle.html_step.proofs.OnePath.{agrees, ends-agree}
 use Rattle.html_step.proofs.ScriptPlaces.{AreBelow, ReferenceBelow, RefusalBelow, bytes-below, first-places-below, places-below}
@@ -186,7 +186,7 @@ says-answers (Ok q) k since bytes s h = h
 says-answers (Err r) k since bytes s h = h
 
 script-answer : (k : ℕ) (x : Option PathRefusal) (o : Option PathCause) (r : Result Place PathRefusal) (u : Option PathRefusal) (p : Option Place)
-    → (x ≡ None → o ≡ None → Answers r u p) → Answers (unless_script_refused k x o r) (unless_in_script k x o u) p
+    → (x ≡ None → o ≡ None → Answers r u p) → Answers (unless_refused_in_script k x o r) (unless_in_script k x o u) p
 script-answer k None None r u p h = h refl refl
 script-answer k None (Some e) r u p h = refl
 script-answer k (Some x) o r u p h = refl
@@ -264,7 +264,7 @@ before-late k n x None h r = late-below k n x.at x.shown h.0 h.1 r
 before-late k n x (Some e) h r = before-late-by k n x e (nat_lt x.at (k - e.back)) h r
 
 pub not-late : (k n : ℕ) (x : Option PathRefusal) (o : Option PathCause) (r : Result Place PathRefusal) → RefusalBelow (k + 1) x
-    → Reaches (k + suc n) (unless_script_refused k x o r) → (x ≡ None) × (o ≡ None) × Reaches (k + suc n) r
+    → Reaches (k + suc n) (unless_refused_in_script k x o r) → (x ≡ None) × (o ≡ None) × Reaches (k + suc n) r
 not-late k n None None r w h = (refl, refl, h)
 not-late k n None (Some e) r w h = late k n e.back e.shown h
 not-late k n (Some x) o r w h = before-late k n x o w h

@@ -36,7 +36,7 @@ use Rattle.html_scan.specs.Scans.{Scan, At, InUrl, InStyle, InStyleElement, pend
 use Rattle.html_step.proofs.ScriptReads.{nil-fits}
 use Rattle.html_step.proofs.ScriptEnds.{script-takes, script_end}
 use Rattle.html_step.specs.Origins.{body_parts, fed_in, is_apart, scan_parts}
-use Rattle.html_step.specs.Steps.{stepped, unless_refused, scan_read_behind, unless_script_refused}
+use Rattle.html_step.specs.Steps.{stepped, unless_refused, scan_read_behind, unless_refused_in_script}
 use Rattle.html_step.proofs.ApartParts.{AriseIn, apart-inside, arise-in, bytes-stay, opens-apart, waits}
 use Rattle.html_step.proofs.Characters.{IsCharacter, NoColon, ReferencePlain, flushed-character, nothing, utf8-character, plain-character}
 use Rattle.html_step.proofs.Clashing.{StartsUrl, is-open, is-start}
@@ -127,9 +127,9 @@ next-apart g f c b v w n l m a d =
     ∙ (bytes-stay (scan_fed f c b) s.0 x.parts inside).met x.apart
 
 pub refused-later : (k : ℕ) (x : Option PathRefusal) (o : Option PathCause) (r : Result Place PathRefusal) (e : PathRefusal) → x ≡ None → o ≡ None → r ≡ Err e
-    → unless_script_refused k x o r ≡ Err e
+    → unless_refused_in_script k x o r ≡ Err e
 refused-later k x o r e m i h =
-    ap (λ (y : Option PathRefusal). unless_script_refused k y o r) m ∙ ap (λ (y : Option PathCause). unless_refused k y r) i ∙ h
+    ap (λ (y : Option PathRefusal). unless_refused_in_script k y o r) m ∙ ap (λ (y : Option PathCause). unless_refused k y r) i ∙ h
 
 -- a scan state of a URL is that of no script
 pub apart-no-script : (g : Scan) (c : Class) → is_apart (scan_parts g) ≡ true → script_end g c ≡ None

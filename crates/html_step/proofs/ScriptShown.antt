@@ -14,7 +14,7 @@ use Rattle.place_core.specs.declared.quotes.Quotes.{Quotes}
 use Rattle.place_core.specs.declared.quotes.Quotes.TheVariants as quotes
 use Rattle.place_core.specs.declared.value_place.ValuePlace.{ValuePlace}
 use Rattle.html_scan.specs.Scans.{InScript, all_scripts, ends_quoted, quoted_error, quoted_places, scan_script_cut_refusal, script_cause, script_fed_byte, script_feeding, script_step_refusal, written_error}
-use Rattle.html_step.specs.Steps.{unless_script_refused}
+use Rattle.html_step.specs.Steps.{unless_refused_in_script}
 use Rattle.html_step.proofs.ScriptPaths.{refusal-none, first-unrefused}
 use Rattle.html_step.proofs.ScriptPlaces.{AreBelow, RefusalBelow, cut-below, fed-below, flushed-below}
 use Rattle.html_step.proofs.StylePaths.{HasValue, StandsHere, ends-no-equals, first-here, language-here, written-here}
@@ -79,8 +79,8 @@ reached k n x None z h r = tt
 reached k n x (Some e) z h r = reached-by (nat_lt x.at (k - e.back)) k n x e z h r
 
 reaches : (k n : ℕ) (x : Option PathRefusal) (y : PathRefusal) (o : Option PathCause) (r : Result Place PathRefusal) → x ≡ Some y → 0 < k
-    → (y.at < k) × (y.shown < k) → Reaches (k + n) (unless_script_refused k x o r) → StandsHere o
-reaches k n x y o r e z h w = reached k n y o z h (subst (λ (u : Option PathRefusal). Reaches (k + n) (unless_script_refused k u o r)) e w)
+    → (y.at < k) × (y.shown < k) → Reaches (k + n) (unless_refused_in_script k x o r) → StandsHere o
+reaches k n x y o r e z h w = reached k n y o z h (subst (λ (u : Option PathRefusal). Reaches (k + n) (unless_refused_in_script k u o r)) e w)
 
 some-below : (k : ℕ) (o : Option PathRefusal) (x : PathRefusal) → o ≡ Some x → RefusalBelow k o → RefusalBelow k (Some x)
 some-below k o x e h = subst (RefusalBelow k) e h
@@ -119,7 +119,7 @@ turned-first false f bytes c b k places n y t g e =
 broken-by : (o : Option PathRefusal) (k n : ℕ) (places : List ℕ) (v : ValuePlace) (q : QuotedAs v.quotes) (m : ScriptScan) (f : Form) (bytes : List ℕ)
     (c : Class) (b : ℕ) (r : Result Place PathRefusal) → turn c f ≡ Breaks → length bytes < k → AreBelow k places
     → script_fed_refusal all_scripts places m (flushed_places k (is_equals_sign c) f bytes) ≡ o
-    → Reaches (k + n) (unless_script_refused k (script_step_refusal v.quotes k places m (Open f bytes) c b) (script_cause v m (Open f bytes) c b) r)
+    → Reaches (k + n) (unless_refused_in_script k (script_step_refusal v.quotes k places m (Open f bytes) c b) (script_cause v m (Open f bytes) c b) r)
     → flushed_error script_feeding m (is_equals_sign c) f bytes ≡ None
 broken-by None k n places v q m f bytes c b r t l h e w =
     fed-none (flushed true (is_equals_sign c) f bytes) (is_written (is_equals_sign c) f bytes) (is_written (is_equals_sign c) f bytes)
@@ -136,7 +136,7 @@ broken-by (Some y) k n places v q m f bytes c b r t l h e w =
 
 pub script-broken : (k n : ℕ) (places : List ℕ) (v : ValuePlace) (m : ScriptScan) (f : Form) (bytes : List ℕ) (c : Class) (b : ℕ)
     (r : Result Place PathRefusal) → HasValue v.quotes → turn c f ≡ Breaks → length bytes < k → AreBelow k places
-    → Reaches (k + n) (unless_script_refused k (script_step_refusal v.quotes k places m (Open f bytes) c b) (script_cause v m (Open f bytes) c b) r)
+    → Reaches (k + n) (unless_refused_in_script k (script_step_refusal v.quotes k places m (Open f bytes) c b) (script_cause v m (Open f bytes) c b) r)
     → flushed_error script_feeding m (is_equals_sign c) f bytes ≡ None
 script-broken k n places v m f bytes c b r g t l h w =
     broken-by (script_fed_refusal all_scripts places m (flushed_places k (is_equals_sign c) f bytes)) k n places v (quoted-as v.quotes g) m f bytes c b r t l h
@@ -145,7 +145,7 @@ script-broken k n places v m f bytes c b r g t l h w =
 -- and the end of the text
 end-by : (o : Option PathRefusal) (k n : ℕ) (places : List ℕ) (v : ValuePlace) (m : ScriptScan) (f : Form) (bytes : List ℕ) (r : Result Place PathRefusal)
     → length bytes < k → AreBelow k places → script_fed_refusal all_scripts places m (cut_places k (Open f bytes)) ≡ o
-    → Reaches (k + n) (unless_script_refused k (scan_script_cut_refusal k places (InScript v m (Open f bytes))) (written_error script_feeding m (38 ∷ bytes)) r)
+    → Reaches (k + n) (unless_refused_in_script k (scan_script_cut_refusal k places (InScript v m (Open f bytes))) (written_error script_feeding m (38 ∷ bytes)) r)
     → written_error script_feeding m (38 ∷ bytes) ≡ None
 end-by None k n places v m f bytes r l h e w =
     fed-none (38 ∷ bytes) true true (k - length (38 ∷ bytes)) (length (38 ∷ bytes)) places m e
@@ -160,7 +160,7 @@ end-by (Some y) k n places v m f bytes r l h e w =
 
 pub script-end : (k n : ℕ) (places : List ℕ) (v : ValuePlace) (m : ScriptScan) (f : Form) (bytes : List ℕ) (r : Result Place PathRefusal)
     → length bytes < k → AreBelow k places
-    → Reaches (k + n) (unless_script_refused k (scan_script_cut_refusal k places (InScript v m (Open f bytes))) (written_error script_feeding m (38 ∷ bytes)) r)
+    → Reaches (k + n) (unless_refused_in_script k (scan_script_cut_refusal k places (InScript v m (Open f bytes))) (written_error script_feeding m (38 ∷ bytes)) r)
     → written_error script_feeding m (38 ∷ bytes) ≡ None
 script-end k n places v m f bytes r l h w =
     end-by (script_fed_refusal all_scripts places m (cut_places k (Open f bytes))) k n places v m f bytes r l h refl w

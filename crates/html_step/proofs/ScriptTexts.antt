@@ -36,7 +36,7 @@ use Rattle.js_step.proofs.ScriptClash.{scripts-clash}
 use Rattle.html_step.proofs.ScriptQuotes.{script-takes-quotes}
 use Rattle.html_step.specs.Laws.{EvidenceData, apart, one, two}
 use Rattle.html_step.specs.Origins.{begun_script_shows, bytes_of_places, first_shown, script_back, script_value_ends, script_evidence, script_origin, script_told_shown}
-use Rattle.html_step.specs.Steps.{scan_read_behind, stepped, unless_script_refused}
+use Rattle.html_step.specs.Steps.{scan_read_behind, stepped, unless_refused_in_script}
 use Rattle.html_step.proofs.OneTexts.{Says, at-place, says}
 use Rattle.html_step.proofs.ScriptEither.{EitherPath, either-below, either-has-brace, either-path, either_js, with_js, EitherElement, either-element}
 use Rattle.html_step.proofs.ScriptReads.{nil-fits}
@@ -191,7 +191,7 @@ at-code k since b bs v j e x y d differ t h =
     let rest = stepped (k + 1) (scan_read_behind k since (At (place.Value v)) c b) bs (scan_next (At (place.Value v)) c b) in
     step-code q k [] m Closed c b (value_error v c) rest e (starts-fit k j) (scripts-clash.start j) differ
     (subst (λ (xs : List ℕ). SlashTold ends xs m) (sym (same-quoted-bytes q k Closed c b)) (told-slash (bytes_of_places (quoted_places q 0 Closed c b)) ends m x y t))
-    (sym (ap (λ (z : Body). unless_script_refused k (begun_script_refusal z q k c b) (first_cause (body_cause z q Closed c b) (at_hand (value_error v c))) rest) d) ∙ h)
+    (sym (ap (λ (z : Body). unless_refused_in_script k (begun_script_refusal z q k c b) (first_cause (body_cause z q Closed c b) (at_hand (value_error v c))) rest) d) ∙ h)
 
 at-script-by : (k : ℕ) (since : TextRead) (b : ℕ) (bs : List ℕ) (v : ValuePlace) (j : Js) (e : PathRefusal) (z : EvidenceData) → v.body ≡ body.Js j
     → ScanValid (At (place.Value v))

@@ -30,7 +30,7 @@ use Rattle.html_step.proofs.ScriptValues.{in-scan, in-set, out-scan}
 use Rattle.html_step.proofs.BelowScans.{below-script}
 use Rattle.html_step.specs.Laws.{EvidenceData, apart, one, two}
 use Rattle.html_step.specs.Origins.{bytes_of_places, script_back, script_value_ends, script_origin, script_shows, script_step_shows, script_told_shown}
-use Rattle.html_step.specs.Steps.{scan_read_behind, stepped, unless_refused, unless_script_refused, unless_broken_off, unless_too_deep}
+use Rattle.html_step.specs.Steps.{scan_read_behind, stepped, unless_refused, unless_refused_in_script, unless_broken_off, unless_too_deep}
 use Rattle.html_step.proofs.FedAlike.{first-caused}
 use Rattle.html_step.proofs.ScanOrder.{HasBegun, ScanBelow, ScanHas, ScanValid, ScriptValueBelow}
 use Rattle.html_step.proofs.ScriptAlike.{Alike, EndsWithBrace, TakesIn, alike-quoted, alike-told, alike-written, same-quoted-bytes, told-apart, told-one, told-two, value-takes}
@@ -66,11 +66,11 @@ value-errors u v c s = rw (s.tag, s.quotes, s.body) refl
 
 -- the same causes give the same refusal
 pub refused-same : (k : ℕ) (x y : Option PathRefusal) (o p : Option PathCause) (r t : Result Place PathRefusal) (e : PathRefusal) → x ≡ y → o ≡ p
-    → (y ≡ None → p ≡ None → ⊥) → unless_script_refused k y p t ≡ Err e → unless_script_refused k x o r ≡ Err e
+    → (y ≡ None → p ≡ None → ⊥) → unless_refused_in_script k y p t ≡ Err e → unless_refused_in_script k x o r ≡ Err e
 refused-same k x (Some z) o p r t e i j n h =
-    ap (λ (w : Option PathRefusal). unless_script_refused k w o r) i ∙ ap (λ (w : Option PathCause). unless_script_refused k (Some z) w r) j ∙ h
+    ap (λ (w : Option PathRefusal). unless_refused_in_script k w o r) i ∙ ap (λ (w : Option PathCause). unless_refused_in_script k (Some z) w r) j ∙ h
 refused-same k x None o (Some z) r t e i j n h =
-    ap (λ (w : Option PathRefusal). unless_script_refused k w o r) i ∙ ap (λ (w : Option PathCause). unless_refused k w r) j ∙ h
+    ap (λ (w : Option PathRefusal). unless_refused_in_script k w o r) i ∙ ap (λ (w : Option PathCause). unless_refused k w r) j ∙ h
 refused-same k x None o None r t e i j n h = absurd (n refl refl)
 
 -- Where nothing is refused, nothing shows it.

@@ -28,7 +28,7 @@ use Rattle.place_core.specs.declared.quotes.Quotes.TheVariants as quotes
 use Rattle.html_scan.specs.Scans.{all_scripts, ends_quoted, quoted_error, quoted_places, script_fed_byte, script_feeding, script_step_refusal}
 use Rattle.html_step.specs.Laws.{EvidenceData, two}
 use Rattle.html_step.specs.Origins.{bytes_of_places, first_shown, script_evidence, script_told_shown, script_value_ends}
-use Rattle.html_step.specs.Steps.{unless_script_refused}
+use Rattle.html_step.specs.Steps.{unless_refused_in_script}
 use Rattle.html_step.proofs.ScriptEnds.{bytes-both, bytes-placed, fed-none, fed-state, quoted-taken}
 use Rattle.html_step.proofs.ScriptPlaces.{AreBelow, FedBelow, ReferenceBelow, flushed-below, more-below, with-below}
 use Rattle.html_step.proofs.SlashCauses.{IsSlash, late-bytes, late-no, slash-byte, slash-end, starts-no}
@@ -357,11 +357,11 @@ err-code : (x : Result Place PathRefusal) (a e : PathRefusal) → x ≡ Err a �
 err-code x a e h i = cc
 
 as-refused : (k : ℕ) (x : Option PathRefusal) (z : PathRefusal) (o u : Option PathCause) (rest : Result Place PathRefusal) (e : PathRefusal) → x ≡ Some z → o ≡ u
-    → unless_script_refused k x o rest ≡ Err e → (before_cause k z u).code ≡ code.SlashAmbig → e.code ≡ code.SlashAmbig
+    → unless_refused_in_script k x o rest ≡ Err e → (before_cause k z u).code ≡ code.SlashAmbig → e.code ≡ code.SlashAmbig
 as-refused k x z o u rest e i j h c =
     ap (λ (w : PathRefusal). w.code)
-    (sym (err-code (unless_script_refused k x o rest) (before_cause k z u) e
-    (ap (λ (w : Option PathRefusal). unless_script_refused k w o rest) i ∙ ap (λ (w : Option PathCause). unless_script_refused k (Some z) w rest) j) h))
+    (sym (err-code (unless_refused_in_script k x o rest) (before_cause k z u) e
+    (ap (λ (w : Option PathRefusal). unless_refused_in_script k w o rest) i ∙ ap (λ (w : Option PathCause). unless_refused_in_script k (Some z) w rest) j) h))
     ∙ c
 
 one-sense : (r : Sense) → script_senses_differ (script_senses r) ≡ true → ⊥
@@ -395,7 +395,7 @@ step-by : (q : Quotes) (k : ℕ) (places : List ℕ) (m : ScriptScan) (r : Refer
     → SlashTold (script_value_ends (ends_quoted q c)) (bytes_of_places (quoted_places q k r c b)) m
     → FedTold (script_value_ends (ends_quoted q c)) (quoted_places q k r c b) places m
     → ErrorTold (ends_quoted q c) k r (quoted_error script_feeding q m r c b) (quoted_places q k r c b)
-    → unless_script_refused k (script_step_refusal q k places m r c b) (step-error q m r c b other) rest ≡ Err e → e.code ≡ code.SlashAmbig
+    → unless_refused_in_script k (script_step_refusal q k places m r c b) (step-error q m r c b other) rest ≡ Err e → e.code ≡ code.SlashAmbig
 step-by q k places m r c b other rest e w fit d t (fed_byte z i s) (error_code x o j) h =
     let xs = quoted_places q k r c b in
     as-refused k (script_step_refusal q k places m r c b) z (step-error q m r c b other) (Some x) rest e
@@ -443,7 +443,7 @@ step-by q k places m r c b other rest e w fit d t (fed_end i s) (error_name f by
 pub step-code : (q : Quotes) (k : ℕ) (places : List ℕ) (m : ScriptScan) (r : Reference) (c : Class) (b : ℕ) (other : Option Code) (rest : Result Place PathRefusal) (e : PathRefusal)
     → FedFits k places m r → ScriptSensesFit m → script_senses_differ m.senses ≡ true
     → SlashTold (script_value_ends (ends_quoted q c)) (bytes_of_places (quoted_places q k r c b)) m
-    → unless_script_refused k (script_step_refusal q k places m r c b) (step-error q m r c b other) rest ≡ Err e → e.code ≡ code.SlashAmbig
+    → unless_refused_in_script k (script_step_refusal q k places m r c b) (step-error q m r c b other) rest ≡ Err e → e.code ≡ code.SlashAmbig
 step-code q k places m r c b other rest e w fit d t h =
     let ends = script_value_ends (ends_quoted q c) in
     step-by q k places m r c b other rest e w fit d t (fed-told (quoted_places q k r c b) places m ends t) (quoted-told q k r c b m ends t) h
@@ -456,7 +456,7 @@ cause-code k z None j s = s
 
 end-by : (k : ℕ) (places there : List ℕ) (m : ScriptScan) (ends : ScriptScan → Option Cause) (xs : List FedByte) (o : Option PathCause) (rest : Result Place PathRefusal) (e : PathRefusal)
     → FedTold ends xs places m → ErrorCode o ⊎ (o ≡ None)
-    → unless_script_refused k (first_path_refusal (script_fed_refusal all_scripts places m xs) (script_refusal_at there (ends (script_fed all_scripts m xs)))) o rest ≡ Err e
+    → unless_refused_in_script k (first_path_refusal (script_fed_refusal all_scripts places m xs) (script_refusal_at there (ends (script_fed all_scripts m xs)))) o rest ≡ Err e
     → e.code ≡ code.SlashAmbig
 end-by k places there m ends xs o rest e (fed_byte z i s) c h =
     as-refused k (first_path_refusal (script_fed_refusal all_scripts places m xs) (script_refusal_at there (ends (script_fed all_scripts m xs)))) z o o rest e
@@ -469,7 +469,7 @@ end-by k places there m ends xs o rest e (fed_end i s) c h =
 
 pub end-code : (k : ℕ) (places bytes : List ℕ) (m : ScriptScan) (ends : ScriptScan → Option Cause) (back start : ℕ) (rest : Result Place PathRefusal) (e : PathRefusal)
     → SlashTold ends bytes m
-    → unless_script_refused k (first_path_refusal (script_fed_refusal all_scripts places m (placed_bytes true start bytes))
+    → unless_refused_in_script k (first_path_refusal (script_fed_refusal all_scripts places m (placed_bytes true start bytes))
     (script_refusal_at (k ∷ places_with (placed_bytes true start bytes) places) (ends (script_fed all_scripts m (placed_bytes true start bytes)))))
     (fed_error script_feeding m bytes true back) rest ≡ Err e → e.code ≡ code.SlashAmbig
 end-code k places bytes m ends back start rest e t h =

@@ -39,7 +39,7 @@ use Rattle.html_step.proofs.ScriptTold.{ScriptShownBytes, ShownSlash, in-script-
 use Rattle.html_step.proofs.ScriptQuiet.{quiet-below, quiet-end, same-read}
 use Rattle.html_step.specs.Laws.{IsEvidence, EvidenceData, TextEvidence, apart, one, two}
 use Rattle.html_step.specs.Origins.{back_by, body_parts, byte_origin, byte_shows, end_shows, is_apart, scan_parts, shows, unless_shown, or_evidence, script_back, script_end_shown, script_shown, script_told_shown}
-use Rattle.html_step.specs.Steps.{after_text, place_before, stepped, unless_broken_off, unless_refused, with_place_before, scan_read_behind, unless_script_refused, unless_too_deep}
+use Rattle.html_step.specs.Steps.{after_text, place_before, stepped, unless_broken_off, unless_refused, with_place_before, scan_read_behind, unless_refused_in_script, unless_too_deep}
 use Rattle.html_step.proofs.ApartParts.{differs-of}
 use Rattle.html_step.proofs.RefusedColons.{ClashesFrom, ShownApart, ShownTwo, Stands, earlier-two, kept-apart, meets, two-read, refused-later}
 use Rattle.html_step.proofs.Characters.{ReferencePlain}
@@ -81,21 +81,21 @@ ok-step-err q r o e f = let same : Ok q ≡ Err r = sym e ∙ f in cc
 
 -- a refusal of the byte at hand, where a script refuses nothing
 hand-refused : (k : ℕ) (y z : Option PathRefusal) (o p : Option PathCause) (r s : Result Place PathRefusal) (x : PathCause) (e : PathRefusal) → y ≡ None → z ≡ None
-    → o ≡ Some x → p ≡ Some x → unless_script_refused k y o r ≡ Err e → unless_script_refused k z p s ≡ Err e
+    → o ≡ Some x → p ≡ Some x → unless_refused_in_script k y o r ≡ Err e → unless_refused_in_script k z p s ≡ Err e
 hand-refused k y z o p r s x e m n i j h =
-    ap (λ (w : Option PathRefusal). unless_script_refused k w p s) n ∙ ap (λ (w : Option PathCause). unless_refused k w s) j
-    ∙ sym (ap (λ (w : Option PathRefusal). unless_script_refused k w o r) m ∙ ap (λ (w : Option PathCause). unless_refused k w r) i) ∙ h
+    ap (λ (w : Option PathRefusal). unless_refused_in_script k w p s) n ∙ ap (λ (w : Option PathCause). unless_refused k w s) j
+    ∙ sym (ap (λ (w : Option PathRefusal). unless_refused_in_script k w o r) m ∙ ap (λ (w : Option PathCause). unless_refused k w r) i) ∙ h
 
 hand-is : (k : ℕ) (y : Option PathRefusal) (o : Option PathCause) (r : Result Place PathRefusal) (x : PathCause) (e : PathRefusal) → y ≡ None → o ≡ Some x
-    → unless_script_refused k y o r ≡ Err e → e ≡ record { code = x.code; at = k - x.back; shown = k - x.shown }
-hand-is k y o r x e m i h = one-err e (record { code = x.code; at = k - x.back; shown = k - x.shown }) (unless_script_refused k y o r) h
-    (ap (λ (w : Option PathRefusal). unless_script_refused k w o r) m ∙ ap (λ (w : Option PathCause). unless_refused k w r) i)
+    → unless_refused_in_script k y o r ≡ Err e → e ≡ record { code = x.code; at = k - x.back; shown = k - x.shown }
+hand-is k y o r x e m i h = one-err e (record { code = x.code; at = k - x.back; shown = k - x.shown }) (unless_refused_in_script k y o r) h
+    (ap (λ (w : Option PathRefusal). unless_refused_in_script k w o r) m ∙ ap (λ (w : Option PathCause). unless_refused k w r) i)
 
 -- or of a later one
 later-refused : (k : ℕ) (y : Option PathRefusal) (o : Option PathCause) (r : Result Place PathRefusal) (e : PathRefusal) → y ≡ None → o ≡ None
-    → unless_script_refused k y o r ≡ Err e → r ≡ Err e
+    → unless_refused_in_script k y o r ≡ Err e → r ≡ Err e
 later-refused k y o r e m i h =
-    sym (ap (λ (w : Option PathRefusal). unless_script_refused k w o r) m ∙ ap (λ (w : Option PathCause). unless_refused k w r) i) ∙ h
+    sym (ap (λ (w : Option PathRefusal). unless_refused_in_script k w o r) m ∙ ap (λ (w : Option PathCause). unless_refused k w r) i) ∙ h
 
 -- two paths that are refused together at the byte at hand
 at-hand-is : (k : ℕ) (r : PathRefusal) (x : PathCause) (c : Code) → r ≡ record { code = x.code; at = k - x.back; shown = k - x.shown }
@@ -149,7 +149,7 @@ apart-byte k b bs f r x is d =
       refuses = λ j n i sum stands since g v l o.
           let same : j - x.back ≡ i = omega (arith, at, sum, stands) in (
             j - x.shown,
-            ap (λ (y : Option PathRefusal). unless_script_refused j y (scan_error g (class_of b) b) (Rest j since b bs g)) (apart-quiet g o j since.fed b)
+            ap (λ (y : Option PathRefusal). unless_refused_in_script j y (scan_error g (class_of b) b) (Rest j since b bs g)) (apart-quiet g o j since.fed b)
                 ∙ ap (λ (y : Option PathCause). unless_refused j y (Rest j since b bs g)) (d.refuses g v l o)
                 ∙ ap (λ (y : ℕ). Err (record { code = x.code; at = y; shown = j - x.shown })) same
                 ∙ ap (λ (y : Code). Err (record { code = y; at = i; shown = j - x.shown })) (sym code),

@@ -10,7 +10,7 @@ use Rattle.html_scan.specs.Scans.{Scan, scan_cut_error, scan_deep_behind, scan_e
 use Rattle.html_scan.specs.ScriptPlaces.{ReadsScript, begins_behind, places_from}
 use Rattle.html_scan.proofs.ScriptReading.{cuts_alike, deep_alike, reads_on, refuses_alike}
 use Rattle.html_step.specs.StepViews.{StandsFirst}
-use Rattle.html_step.specs.Steps.{scan_read_behind, stepped, unless_broken_off, unless_refused, unless_script_refused, unless_too_deep}
+use Rattle.html_step.specs.Steps.{scan_read_behind, stepped, unless_broken_off, unless_refused, unless_refused_in_script, unless_too_deep}
 
 abbrev pub known : ℕ → List ℕ → Option ℕ → TextRead
 known last fed deep = record { last = last; fed = fed; deep = deep }
@@ -31,7 +31,7 @@ at-byte text k begins since f e here w h =
     let c = class_of b in
     let rest = stepped (k + 1) (scan_read_behind k since f c b) (drop (k + 1) text) (scan_next f c b) in
     ap (λ (left : List ℕ). stepped k since left f) (drop_more text k 0 here)
-    ∙ ap (λ (x : Option PathRefusal). unless_script_refused k x (scan_error f c b) rest) (sym (refuses_alike text begins k f since.fed c b w))
+    ∙ ap (λ (x : Option PathRefusal). unless_refused_in_script k x (scan_error f c b) rest) (sym (refuses_alike text begins k f since.fed c b w))
     ∙ sym (h rest)
 
 -- one byte more
@@ -78,7 +78,7 @@ end-by : (text : List ℕ) (k n begins last : ℕ) (deep : Option ℕ) (f : Scan
 end-by text k n begins last deep f whole e i d h r =
     let rest = unless_too_deep k deep (unless_broken_off k last (scan_lexeme_error f) (scan_place f)) in
     rw i ((rw i at h) rest
-    ∙ ap (λ (x : Option PathRefusal). unless_script_refused k x (scan_cut_error f) rest) (cuts_alike text begins k f r.fed r.reads)
+    ∙ ap (λ (x : Option PathRefusal). unless_refused_in_script k x (scan_cut_error f) rest) (cuts_alike text begins k f r.fed r.reads)
     ∙ ap (λ (left : List ℕ). stepped k (known last r.fed deep) left f) (sym d) ∙ r.steps)
 
 pub reads-end : (text : List ℕ) (k begins last : ℕ) (deep : Option ℕ) (f : Scan) (whole : Result Place PathRefusal) (e : Option PathCause) → k ≡ length text

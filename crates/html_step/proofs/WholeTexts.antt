@@ -8,7 +8,7 @@ use Rattle.place_core.specs.declared.place.Place.{Place}
 use Rattle.place_core.specs.declared.step_err.StepErr.{StepErr}
 use Rattle.html_scan.specs.Scans.{Scan, At, scan_cut_error, scan_deep_behind, scan_error, scan_lexeme_error, scan_next, scan_place, scan_script_cut_refusal, scan_script_refusal}
 use Rattle.html_step.specs.Laws.{CoversText, GrowsText, ValidText}
-use Rattle.html_step.specs.Steps.{after_text, scan_read_behind, stepped, unless_broken_off, unless_refused, unless_script_refused, unless_too_deep, with_place_before}
+use Rattle.html_step.specs.Steps.{after_text, scan_read_behind, stepped, unless_broken_off, unless_refused, unless_refused_in_script, unless_too_deep, with_place_before}
 use Rattle.html_step.proofs.ScanOrder.{ScanBelow, ScanValid, end-grows, scan-grows, script_cut}
 use Rattle.html_step.proofs.ScriptEnds.{script_end, script-cut-takes, script-end-grows, script-takes, taken-script, taken-script-cut}
 use Rattle.html_step.proofs.OneTexts.{one-text}
@@ -32,13 +32,13 @@ not-refused-there : (k : ℕ) (o : Option PathCause) (r : Result Place PathRefus
 not-refused-there k None r q e = (refl, e)
 not-refused-there k (Some x) r q e = absurd (no-answer q _ (unless_refused k (Some x) r) refl e)
 
-pub not-refused : (k : ℕ) (x : Option PathRefusal) (o : Option PathCause) (r : Result Place PathRefusal) (q : Place) → unless_script_refused k x o r ≡ Ok q
+pub not-refused : (k : ℕ) (x : Option PathRefusal) (o : Option PathCause) (r : Result Place PathRefusal) (q : Place) → unless_refused_in_script k x o r ≡ Ok q
     → (o ≡ None) × (r ≡ Ok q) × (x ≡ None)
 not-refused k None o r q e = (let n = not-refused-there k o r q e in (n.0, n.1, refl))
-not-refused k (Some x) o r q e = absurd (no-answer q _ (unless_script_refused k (Some x) o r) refl e)
+not-refused k (Some x) o r q e = absurd (no-answer q _ (unless_refused_in_script k (Some x) o r) refl e)
 
 pub refused-not : (k : ℕ) (x : Option PathRefusal) (o : Option PathCause) (r : Result Place PathRefusal) (q : Place) → x ≡ None → o ≡ None → r ≡ Ok q
-    → unless_script_refused k x o r ≡ Ok q
+    → unless_refused_in_script k x o r ≡ Ok q
 refused-not k x o r q d e f = rw (d, e, f) refl
 
 -- the answer of the whole is that of the steps

@@ -24,9 +24,9 @@ unless_broken_off k since None p = Ok p
 unless_broken_off k since (Some e) p = Err (record { code = e; at = k; shown = since })
 
 -- A script may refuse a byte that stands before the one by which that is known; literals of a value that nest too deep are refused at the end.
-abbrev pub unless_script_refused : ℕ → Option PathRefusal → Option PathCause → Result Place PathRefusal → Result Place PathRefusal
-unless_script_refused k None o r = unless_refused k o r
-unless_script_refused k (Some x) o r = Err (before_cause k x o)
+abbrev pub unless_refused_in_script : ℕ → Option PathRefusal → Option PathCause → Result Place PathRefusal → Result Place PathRefusal
+unless_refused_in_script k None o r = unless_refused k o r
+unless_refused_in_script k (Some x) o r = Err (before_cause k x o)
 
 abbrev pub unless_too_deep : ℕ → Option ℕ → Result Place PathRefusal → Result Place PathRefusal
 unless_too_deep k None r = r
@@ -42,10 +42,10 @@ scan_read_behind k since f c b = record {
 -- of bytes that stand at `k` in their text, where `since` is what is kept of those before
 abbrev pub stepped : ℕ → TextRead → List ℕ → Scan → Result Place PathRefusal
 stepped k since [] f =
-    unless_script_refused k (scan_script_cut_refusal k since.fed f) (scan_cut_error f)
+    unless_refused_in_script k (scan_script_cut_refusal k since.fed f) (scan_cut_error f)
     (unless_too_deep k since.deep (unless_broken_off k since.last (scan_lexeme_error f) (scan_place f)))
 stepped k since (b ∷ bs) f =
-    unless_script_refused k (scan_script_refusal k since.fed f (class_of b) b) (scan_error f (class_of b) b)
+    unless_refused_in_script k (scan_script_refusal k since.fed f (class_of b) b) (scan_error f (class_of b) b)
     (stepped (k + 1) (scan_read_behind k since f (class_of b) b) bs (scan_next f (class_of b) b))
 
 -- The place that is shown before a byte of a text: the last one that there is up to this byte.

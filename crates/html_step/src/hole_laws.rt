@@ -6,12 +6,14 @@ pub fn hole_of_one_path()
     ensures { OneHole }
 {}
 
-/// Each path that a place stands for comes to one for which the place after the hole stands, and has the same chain there. A theorem; the call does nothing at run time.
+/// Each path that a place stands for comes to one for which the place after the hole stands, and has the same chain there. A theorem; the
+/// call does nothing at run time.
 pub fn hole_covers_paths()
     ensures { CoversHole }
 {}
 
-/// Each member of the place after a hole comes from one member of the place before it, on every path that bears that one. A theorem; the call does nothing at run time.
+/// Each member of the place after a hole comes from one member of the place before it, on every path that bears that one. A theorem; the
+/// call does nothing at run time.
 pub fn hole_members_come_from_one()
     ensures { FromHole }
 {}
@@ -22,12 +24,14 @@ pub fn refused_hole_has_evidence()
     ensures { HoleEvidence }
 {}
 
-/// Where a hole is accepted it is refused on no path that the place stands for, and on no two of them. A theorem; the call does nothing at run time.
+/// Where a hole is accepted it is refused on no path that the place stands for, and on no two of them. A theorem; the call does nothing at
+/// run time.
 pub fn accepts_hole_on_all_paths()
     ensures { AcceptsHole }
 {}
 
-/// A valid place below another one accepts a hole where that one does, with the same chain, and comes to a place below. A theorem; the call does nothing at run time.
+/// A valid place below another one accepts a hole where that one does, with the same chain, and comes to a place below. A theorem; the call
+/// does nothing at run time.
 pub fn hole_keeps_order()
     ensures { GrowsHole }
 {}

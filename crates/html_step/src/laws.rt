@@ -2,12 +2,14 @@ ghost use Rattle.html_step.specs.Apart.{ApartLaws};
 ghost use Rattle.html_step.specs.Laws.{AcceptsText, CoversText, FromText, GrowsText, OneBefore, OneText, TextEvidence, ValidText};
 
 /// From the place of one path a step over a text is the path's own: it is taken exactly where the path is not refused in the text, and
-/// leads to the path's place after it; else it tells by which code the path is refused, at which byte, and its place before that. A theorem; the call does nothing at run time.
+/// leads to the path's place after it; else it tells by which code the path is refused, at which byte, and its place before that. A
+/// theorem; the call does nothing at run time.
 pub fn one_path()
     ensures { OneText }
 {}
 
-/// From the place of one path the place that is shown before a byte is the path's own, up to the byte that is refused. A theorem; the call does nothing at run time.
+/// From the place of one path the place that is shown before a byte is the path's own, up to the byte that is refused. A theorem; the call
+/// does nothing at run time.
 pub fn one_path_before()
     ensures { OneBefore }
 {}
@@ -17,7 +19,8 @@ pub fn covers_paths()
     ensures { CoversText }
 {}
 
-/// Each member of the place after a text comes from one member of the place before it, on every path that bears that one. A theorem; the call does nothing at run time.
+/// Each member of the place after a text comes from one member of the place before it, on every path that bears that one. A theorem; the
+/// call does nothing at run time.
 pub fn members_come_from_one()
     ensures { FromText }
 {}
@@ -28,7 +31,8 @@ pub fn refusal_has_evidence()
     ensures { TextEvidence }
 {}
 
-/// Where a text is accepted no path that the place stands for is refused, and no two are refused together. A theorem; the call does nothing at run time.
+/// Where a text is accepted no path that the place stands for is refused, and no two are refused together. A theorem; the call does nothing
+/// at run time.
 pub fn accepts_all_paths()
     ensures { AcceptsText }
 {}

@@ -16,22 +16,23 @@ use html_scan::{
 };
 use place_core::{Code, Place, StepErr};
 
-/// The place after a text of a template, from the place before it; or why the text is refused and at which of its bytes, with
-/// the place before that byte, or before the lexeme in which it stands. Of several bytes that are refused it is the first. (HTML Standard, section 13.2.5.) The causes:
+/// The place after a text of a template, from the place before it; or why the text is refused and at which of its bytes, with the place
+/// before that byte, or before the lexeme in which it stands. Of several bytes that are refused it is the first. (HTML Standard, section
+/// 13.2.5.) The causes:
 ///
-/// - `BadHTML`: in a tag, a quote or a `<` in or before a name, and a `=` before one; in a value without quotes a quote; there
-///   and before such a value a `<`, a `=` or a grave accent; a second `type` of a script, at the first byte of its name; a text
-///   that ends in the value of a script's `type`; in a URL a reference by a name that stands for no character, at its `&`.
-/// - `SplitToken`: the first byte of a text that would go on with a name, or with what may be the end of a comment, in which
-///   the text before it ended, or with a name that is a value of data, or with the `<` in which it ended in a data block; a text
-///   that ends in a data block in a beginning of `</script` after its `</`, or in `<!` or `<!-`.
+/// - `BadHTML`: in a tag, a quote or a `<` in or before a name, and a `=` before one; in a value without quotes a quote; there and before
+///   such a value a `<`, a `=` or a grave accent; a second `type` of a script, at the first byte of its name; a text that ends in the value
+///   of a script's `type`; in a URL a reference by a name that stands for no character, at its `&`.
+/// - `SplitToken`: the first byte of a text that would go on with a name, or with what may be the end of a comment, in which the text
+///   before it ended, or with a name that is a value of data, or with the `<` in which it ended in a data block; a text that ends in a data
+///   block in a beginning of `</script` after its `</`, or in `<!` or `<!-`.
 /// - `HtmlInScript`: a `<!--` in a data block.
-/// - `AmbigContext`: a blank that on some paths ends a value without quotes, and on others stands before one; in the beginning of
-///   a URL a `:`, also as a reference, behind a value of data, or where paths have spelled different things.
+/// - `AmbigContext`: a blank that on some paths ends a value without quotes, and on others stands before one; in the beginning of a URL a
+///   `:`, also as a reference, behind a value of data, or where paths have spelled different things.
 /// - `PartialEscape`: a text that ends in a percent triple of a URL.
-/// - In a script, of a value or of the element: `SplitToken`, `SlashAmbig`, `BadString`, `HtmlInScript` and `PartialEscape` as `js_lexer` says
-///   of scripts; `PartialCharset`: a text that ends in a `[ ]` of a regular expression; `JSTemplate`: one that ends in a template literal, or
-///   where literals nest too deep.
+/// - In a script, of a value or of the element: `SplitToken`, `SlashAmbig`, `BadString`, `HtmlInScript` and `PartialEscape` as `js_lexer`
+///   says of scripts; `PartialCharset`: a text that ends in a `[ ]` of a regular expression; `JSTemplate`: one that ends in a template
+///   literal, or where literals nest too deep.
 ///
 /// Takes no memory, and time in proportion to the length of the text.
 pub fn after_text(place: Place, text: &str) -> Result<Place, StepErr<Place>>

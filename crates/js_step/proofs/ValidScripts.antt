@@ -80,7 +80,7 @@ quote-valid : (q : Bool) → IsValidJs (script_quote_place q)
 quote-valid true = tt
 quote-valid false = tt
 
-place-valid : (s : Senses) (x : JsTails) (star : Bool) (a : At) → some_sense s ≡ true → IsValidJs (script_place_at s x star a)
+pub place-valid : (s : Senses) (x : JsTails) (star : Bool) (a : At) → some_sense s ≡ true → IsValidJs (script_place_at s x star a)
 place-valid s x star (Code t) h = h
 place-valid s x star (Word w) h = h
 place-valid s x star Number h = h

@@ -1,5 +1,8 @@
 pub mod KeptWordLaws
 pub mod KeptWords
+pub mod ScriptChains
+pub mod ScriptCharacterLaws
+pub mod ScriptCharacters
 pub mod ScriptEvidence
 pub mod ScriptOrigins
 pub mod ScriptPaths

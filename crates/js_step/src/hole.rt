@@ -1,8 +1,9 @@
 ghost use Rattle.std.specs.Prelude.{◌≡◌};
+ghost use Rattle.js_step.specs.ScriptChains.{script_chain, script_hole_with_chain};
 ghost use Rattle.js_step.specs.ScriptSanitizers.{script_sanitizer};
 ghost use Rattle.js_step.specs.ScriptScans.{script_at_hole};
 
-use place_core::{Js, JsTails, San, Senses};
+use place_core::{Chain, Js, JsTails, San, Senses};
 
 /// The place behind a hole. None is refused in a script.
 pub fn at_hole(place: Js) -> Js
@@ -43,5 +44,23 @@ pub fn sanitizer(place: Js) -> San
         Js::Dq | Js::Sq => San::JsString,
         Js::Regexp(_) => San::JsRegexp,
         Js::Line(_) | Js::Block(_, _) => San::Drop,
+    }
+}
+
+/// The place behind a hole, and what is done to a value there. The chain is that of the script alone: HTML adds the sanitizer of the
+/// value's quotes. Takes no memory.
+pub fn after_hole(place: Js) -> (Js, Chain)
+    ensures { result ≡ script_hole_with_chain place }
+{
+    (at_hole(place), only_sanitizer(sanitizer(place)))
+}
+
+// One sanitizer.
+fn only_sanitizer(san: San) -> Chain
+    ensures { result ≡ script_chain san }
+{
+    Chain {
+        count: 1,
+        sans: [san; 3],
     }
 }

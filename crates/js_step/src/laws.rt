@@ -1,4 +1,5 @@
 ghost use Rattle.js_step.specs.KeptWordLaws.{KeptWordsSuffice};
+ghost use Rattle.js_step.specs.ScriptCharacterLaws.{IsExactOnOneScriptText, ScriptTextsStayValid};
 ghost use Rattle.js_step.specs.ScriptPaths.{ScriptPathsAreScanned};
 ghost use Rattle.js_step.specs.ScriptScanLaws.{IsExactOnOneScript, ScriptsBeginAsOne};
 ghost use Rattle.js_step.specs.ScriptSetLaws.{EmptyTextsKeepScripts, ScriptSensesShare};
@@ -53,8 +54,20 @@ pub fn script_paths_are_scanned()
     ensures { ScriptPathsAreScanned }
 {}
 
-/// No answer depends on more of a word than the code keeps of it: what is refused at a byte and at the ends, the places, and what is kept behind
-/// a byte. A theorem; the call does nothing at run time.
+/// No answer depends on more of a word than the code keeps of it: what is refused at a byte and at the ends, the places, and what is kept
+/// behind a byte. A theorem; the call does nothing at run time.
 pub fn kept_words_suffice()
     ensures { KeptWordsSuffice }
+{}
+
+/// From the place of one path, where a text begins as on the path, what characters come to is the path's own place, and so is what is
+/// refused of them, where, and the place that is shown. A theorem; the call does nothing at run time.
+pub fn is_exact_on_one_script_text()
+    ensures { IsExactOnOneScriptText }
+{}
+
+/// The characters of a text bring a place with at least one sense of a slash to such places, and so is the place that is shown with a
+/// refusal. A theorem; the call does nothing at run time.
+pub fn script_texts_stay_valid()
+    ensures { ScriptTextsStayValid }
 {}

@@ -9,7 +9,7 @@ use crate::point::ScriptPoint;
 use crate::scan::{ScriptAt, ScriptEscape, ScriptLiterals};
 use js_lexer::Sense;
 
-// Whether no template literal is open.
+/// Whether no template literal is open.
 #[tactic(auto, using(crate::proofs::OpenLiterals::literal_rules))]
 pub fn is_outside(literals: ScriptLiterals) -> bool
     ensures { result ≡ trails.is_empty (script_literals_at literals) }

@@ -136,8 +136,8 @@ pub enum ScriptPart {
 }
 
 /// What is known of the bytes that were read, for what is refused and what is written: whether the first character is still ahead; how many
-/// bytes have been read, with the first, since a `\u{` that is not closed, since a `[`, and since the outermost template literal; and the part
-/// of a block comment.
+/// bytes have been read, with the first, since a `\u{` that is not closed, since a `[`, and since the outermost template literal; and the
+/// part of a block comment.
 #[derive(Clone, Copy)]
 pub struct ScriptTrail {
     pub fresh: bool,

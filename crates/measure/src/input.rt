@@ -26,12 +26,14 @@ pub fn input_of(alloc: Global, input: Input, size: usize) -> Result<String, Allo
         Input::Lists => repeated(alloc, "[", "[],", "[]]", size),
         Input::Objects => objects(alloc, size),
         Input::Sections => repeated(alloc, "", SECTION, "", size),
+        Input::RefusedSections => repeated(alloc, "", SECTION, "<h{{.}}>", size),
         Input::PageSections => page_sections(alloc, size),
         Input::Urls => repeated(alloc, "", URL, "", size),
         Input::Links => repeated(alloc, "", LINK, "", size),
         Input::Styles => repeated(alloc, "", STYLE, "", size),
         Input::StyleElements => repeated(alloc, "", STYLE_ELEMENT, "", size),
         Input::Scripts => repeated(alloc, "", SCRIPT, "", size),
+        Input::ScriptElements => repeated(alloc, "", SCRIPT_ELEMENT, "", size),
         Input::Chain => chain(alloc, size),
         Input::Pairs => pairs(alloc, size),
         Input::Nests => nests(alloc, TAGS, size),
@@ -57,6 +59,10 @@ const STYLE_ELEMENT: &str = "<style>p{width:{{.w}}px}</style>\n";
 
 // A tag with three values in a script: a number in its code, and a text in a string and in a regular expression.
 const SCRIPT: &str = "<p onclick=\"f({{.w}}, '{{.v}}', /{{.v}}/)\">{{.v}}</p>\n";
+
+// An element `script` with three values: a number in its code, and a text in a string and in a regular expression.
+const SCRIPT_ELEMENT: &str =
+    "<script>var w = {{.w}}; f('{{.v}}', /{{.v}}/); // a comment\n</script>\n";
 
 // A section of a page with a hole.
 const PAGE_HOLE: &str = "<p>{{.v}}</p>\n";

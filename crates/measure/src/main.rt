@@ -53,7 +53,7 @@ fn main(rt: HostRuntime) -> ExitCode {
             let _ = eprintln!(&rt; "      gather-sections gather-chain gather-pairs gather-nested");
             let _ = eprintln!(&rt; "      gather-values");
             let _ = eprintln!(&rt; "      infer-sections infer-chain infer-pairs infer-nested");
-            let _ = eprintln!(&rt; "      infer-values");
+            let _ = eprintln!(&rt; "      infer-values infer-refused");
             let _ = eprintln!(&rt;
                 "      html-text html-markup nospace-text nospace-markup norm-text norm-markup"
             );
@@ -69,7 +69,9 @@ fn main(rt: HostRuntime) -> ExitCode {
             let _ = eprintln!(&rt;
                 "      page-style-elements pages-styles pages-style-elements pages-text"
             );
-            let _ = eprintln!(&rt; "      page-scripts pages-scripts");
+            let _ = eprintln!(&rt;
+                "      page-scripts page-script-elements pages-scripts pages-script-elements"
+            );
             let _ = eprintln!(&rt; "      page-variables page-dropped page-names page-slices");
             let _ = eprintln!(&rt; "      looks-1 looks-4 locks-1 locks-4");
             return ExitCode::from(2);

@@ -80,6 +80,8 @@ pub enum Input {
     Objects,
     /// Sections of a page, each with a hole in a value and with a choice.
     Sections,
+    /// The same, and then a tag whose name would end in a value, which is refused.
+    RefusedSections,
     /// Sections of a page of two kinds in turn, one with a hole, one with a list.
     PageSections,
     /// Tags with a URL as the value of an attribute, which has a reference and a percent triple, again and again.
@@ -93,6 +95,8 @@ pub enum Input {
     /// Tags with a script as the value of an attribute, which has a value of data in its code, one in a string and one in a regular
     /// expression, again and again.
     Scripts,
+    /// Elements `script`, each with a value of data in its code, one in a string and one in a regular expression, again and again.
+    ScriptElements,
     /// Variables; after each one the one with half its number is used.
     Variables,
     /// Templates, each of which calls the next one in eight places.
@@ -134,6 +138,7 @@ pub fn words_named(word: &str) -> Option<(Measured, Input)> {
         "gather-nested" => Some((Measured::Gather, Input::Nests)),
         "gather-values" => Some((Measured::Gather, Input::Values)),
         "infer-sections" => Some((Measured::Infer, Input::Sections)),
+        "infer-refused" => Some((Measured::Infer, Input::RefusedSections)),
         "infer-chain" => Some((Measured::Infer, Input::Chain)),
         "infer-pairs" => Some((Measured::Infer, Input::Pairs)),
         "infer-nested" => Some((Measured::Infer, Input::Nests)),
@@ -164,6 +169,7 @@ pub fn words_named(word: &str) -> Option<(Measured, Input)> {
         "page-styles" => Some((Measured::Page, Input::Styles)),
         "page-style-elements" => Some((Measured::Page, Input::StyleElements)),
         "page-scripts" => Some((Measured::Page, Input::Scripts)),
+        "page-script-elements" => Some((Measured::Page, Input::ScriptElements)),
         "page-text" => Some((Measured::Page, Input::Text)),
         "page-variables" => Some((Measured::Page, Input::Variables)),
         "page-dropped" => Some((Measured::Dropped, Input::Numbers)),
@@ -174,6 +180,7 @@ pub fn words_named(word: &str) -> Option<(Measured, Input)> {
         "pages-styles" => Some((Measured::Pages, Input::Styles)),
         "pages-style-elements" => Some((Measured::Pages, Input::StyleElements)),
         "pages-scripts" => Some((Measured::Pages, Input::Scripts)),
+        "pages-script-elements" => Some((Measured::Pages, Input::ScriptElements)),
         "pages-text" => Some((Measured::Pages, Input::Text)),
         "looks-1" => Some((Measured::Looks, Input::One)),
         "looks-4" => Some((Measured::Looks, Input::Four)),

@@ -42,7 +42,7 @@ pub fn data_of(input: Input) -> &'static str {
         Input::PageSections => "{\"l\":[\"a b\",\"c\"],\"v\":\"<&\",\"w\":7}",
         Input::Links => "{\"v\":\"a b\",\"w\":\"c&d\"}",
         Input::Styles | Input::StyleElements => "{\"v\":\"#1a2b3c\",\"w\":120}",
-        Input::Scripts => "{\"v\":\"a'b/c\",\"w\":120}",
+        Input::Scripts | Input::ScriptElements => "{\"v\":\"a'b/c\",\"w\":120}",
         _ => "null",
     }
 }

@@ -7,3 +7,4 @@ pub mod RefusalTexts
 pub mod Refusing
 pub mod Roots
 pub mod Texts
+pub mod WithoutErrors

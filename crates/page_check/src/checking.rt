@@ -3,6 +3,7 @@ ghost use Rattle.page_check.specs.CheckedSets.{IsChecked, OnlyForMemory};
 ghost use Rattle.page_check.specs.Definitions.{IsForestOf};
 ghost use Rattle.page_check.specs.Reading.{ChartRootsAnswers};
 ghost use Rattle.page_check.specs.Refusing.{IsRefused, FilesRefuse};
+ghost use Rattle.page_check.specs.WithoutErrors.{EndsAlone, NeedsCause};
 
 use crate::checked::Checked;
 use crate::names::root_names;
@@ -29,6 +30,10 @@ pub fn check_files(alloc: Global, files: Files) -> Result<Checked, MakeRefused>
     ensures refused { IfErr result (IsRefused files.list) }
     // What could be accepted is refused for want of memory alone.
     ensures sets { IfErr result (OnlyForMemory files) }
+    // So is what has no error on any path of its roots, and not too many pairs.
+    ensures complete { IfErr result (NeedsCause files.list) }
+    // An end of a root is refused exactly where no other error stands.
+    ensures ends { IfErr result (EndsAlone files.list) }
 {
     match checked_set(alloc, files) {
         Ok(checked) => Ok(checked),

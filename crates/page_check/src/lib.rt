@@ -4,6 +4,7 @@
 mod cause_names;
 mod checked;
 mod checking;
+mod laws;
 mod names;
 mod path_lines;
 mod reading;
@@ -13,6 +14,7 @@ mod root_start;
 
 pub use checked::Checked;
 pub use checking::check_files;
+pub use laws::error_free_files_are_not_refused;
 pub use names::is_partial;
 pub use refused::{MAX_FILE, MakeRefused};
 pub use root_start::RootStart;

@@ -1,6 +1,7 @@
 ghost use Rattle.std.specs.Prelude.{◌≡◌, ◌≤◌, length, Err, IfOk, IfErr, OnOk};
 ghost use Rattle.page_check.specs.CheckedSets.{ExplainRootAnswers, IsChecked, OnlyForMemory};
 ghost use Rattle.page_check.specs.Refusing.{IsRefused};
+ghost use Rattle.page_check.specs.WithoutErrors.{EndsAlone, NeedsCause};
 ghost use Rattle.page_check.specs.Roots.{roots_of};
 ghost use Rattle.page_datum.specs.Execution.{PageAnswers, done};
 ghost use Rattle.page_datum.specs.View.{view};
@@ -108,6 +109,8 @@ impl Pages for PageSet {
         ensures accepted { IfOk result (λ _. spec.FilesRefuse files.list → ⊥) }
         ensures refused { IfErr result (IsRefused files.list) }
         ensures sets { IfErr result (OnlyForMemory files) }
+        ensures complete { IfErr result (NeedsCause files.list) }
+        ensures ends { IfErr result (EndsAlone files.list) }
     {
         let checked = match check_files(alloc, files) {
             Ok(checked) => checked,

@@ -1,13 +1,21 @@
 -- What holds of the command that was asked for, of the words that are it.
-use Rattle.std.proofs.Common.{◌≡◌, true, true≢false, refl, sym, ap, ◌∙◌, subst}
-use Rattle.std.specs.Prelude.{◌↔◌}
+use Rattle.std.proofs.Common.{◌≡◌, List, ℕ, Option, Some, None, true, true≢false, refl, sym, ap, ◌∙◌, subst}
+use Rattle.std.specs.Prelude.{◌↔◌, IfSome}
+use Rattle.page_check.proofs.NotRefused.{needs_cause}
+use Rattle.page_check.specs.WithoutErrors.{HaveNoError}
+use Rattle.page_check.specs.declared.refused.MakeRefused.{MakeRefused}
+use Rattle.page_io.specs.FolderContents.{FolderContents}
 use Rattle.page_tool.specs.Asking.{command_asked}
 use Rattle.page_tool.specs.Checking.{CheckCause}
+use Rattle.page_tool.specs.Command.{CommandNeedsCause}
 use Rattle.page_tool.specs.Devices.{Devices}
 use Rattle.page_tool.specs.Explaining.{ExplainCause}
-use Rattle.page_tool.specs.Making.{MakeCause}
+use Rattle.page_tool.specs.Files.{files_of}
+use Rattle.page_tool.specs.LoadedSets.{IsRefusedFor}
+use Rattle.page_tool.specs.Making.{IsMadeRefused, MakeCause}
 use Rattle.page_tool.specs.Output.{StatusCause}
 use Rattle.page_tool.specs.Runs.{Runs}
+use Rattle.page_tool.specs.Sections.{made_files}
 use Rattle.page_tool.specs.Words.{Command, no_command, check, render, explain, make, is_command}
 use Rattle.page_tool.specs.declared.asked.Asked.{Asked}
 use Rattle.page_tool.specs.declared.asked.Asked.TheVariants as asked
@@ -38,3 +46,21 @@ asked_usage a known before after s is r = (
 -- the command of a branch is the one that was asked for
 pub branch_runs : (a b : Asked) (before after : Devices) (s : Status) → a ≡ b → Runs (command_asked b) before after s → Runs (command_asked a) before after s
 branch_runs a b before after s is r = subst (λ (x : Asked). Runs (command_asked x) before after s) (sym is) r
+
+-- files that are refused are none on whose paths no error stands
+refused_for : (held : Option FolderContents) (dir : List ℕ) → IfSome held (λ h. (why : MakeRefused) × IsRefusedFor h dir why) → IfSome held (λ h. HaveNoError (files_of h dir).list → ⊥)
+refused_for None dir r = tt
+refused_for (Some h) dir r = λ free. r.1.known (needs_cause (files_of h dir).list r.0 r.1.cause free)
+
+made_refused : (sections : ℕ) → (why : MakeRefused) × IsMadeRefused sections why → HaveNoError (made_files sections).list → ⊥
+made_refused sections r free = r.1.known (needs_cause (made_files sections).list r.0 r.1.cause free)
+
+needs_error : (command : Command) (before after : Devices) (s : Status) → Runs command before after s → s ≡ status.SetRefused → CommandNeedsCause command before.held
+needs_error no_command before after s r e = tt
+needs_error (check dir) before after s r e = refused_for before.held dir (subst (λ (x : Status). CheckCause before.held dir x) e r.cause)
+needs_error (render dir root) before after s r e = refused_for before.held dir (subst (λ (x : Status). StatusCause before.held before.left dir root x) e r.cause)
+needs_error (explain dir root) before after s r e = refused_for before.held dir (subst (λ (x : Status). ExplainCause before.held dir root x) e r.cause)
+needs_error (make sections) before after s r e = made_refused sections (subst (λ (x : Status). MakeCause sections x) e r.cause)
+
+pub asked_needs : (a : Asked) (known : Command) (before after : Devices) (s : Status) → command_asked a ≡ known → Runs (command_asked a) before after s → s ≡ status.SetRefused → CommandNeedsCause known before.held
+asked_needs a known before after s is r e = subst (λ (x : Command). CommandNeedsCause x before.held) is (needs_error (command_asked a) before after s r e)

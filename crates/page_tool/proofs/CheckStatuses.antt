@@ -3,14 +3,13 @@ use Rattle.std.proofs.Common.{◌≡◌, ◌≢◌, ℕ, List, [], Option, None,
 use Rattle.std.specs.Io.KnownBytes.{Appends}
 use Rattle.std.specs.Prelude.{IfSome, ◌⊎◌}
 use Rattle.page_check.specs.Refusing.{FilesRefuse}
-use Rattle.page_check.specs.declared.refused.MakeRefused.{MakeRefused}
 use Rattle.page_io.specs.FolderContents.{FolderContents}
 use Rattle.page_tool.specs.Checking.{CheckAnswers, CheckCause, CheckExact, CheckLines, CheckOutput, IsSetText}
 use Rattle.page_tool.specs.Codes.{status_for}
 use Rattle.page_tool.specs.Exact.{Ends}
 use Rattle.page_tool.specs.Files.{files_of}
 use Rattle.page_tool.specs.Lines.{Says, stop_text}
-use Rattle.page_tool.specs.LoadedSets.{IsRefusedFor, IsSet}
+use Rattle.page_tool.specs.LoadedSets.{IsSet}
 use Rattle.page_tool.specs.SetTexts.{WritesText, WritesTextPart}
 use Rattle.page_tool.specs.declared.status.Status.{Status}
 use Rattle.page_tool.specs.declared.status.Status.TheVariants as status
@@ -69,14 +68,9 @@ pub check_cause : (held : Option FolderContents) (dir : List ℕ) (old new : Opt
     → CheckAnswers held dir old new (Err why) → IsReported why s → CheckCause held dir s
 check_cause held dir old new why s a r = reported (CheckCause held dir) why s r (own_cause held dir old new why a) tt
 
-refused_lines : (held : Option FolderContents) (dir : List ℕ) (why : MakeRefused) → IfSome held (λ h. IsRefusedFor h dir why)
-    → CheckLines held dir status.SetRefused (stop_text (stop.Set why) [])
-refused_lines None dir why c = tt
-refused_lines (Some h) dir why c = (why, c, refl)
-
 own_lines : (held : Option FolderContents) (dir : List ℕ) (old new : Option (List ℕ)) (why : CommandStop) → CheckAnswers held dir old new (Err why)
     → CheckLines held dir (status_for why) (stop_text why [])
-own_lines held dir old new (stop.Set why) a = refused_lines held dir why a.1
+own_lines held dir old new (stop.Set why) a = (why, a.1, refl)
 own_lines held dir old new (stop.Fault fault) a = absurd a
 own_lines held dir old new (stop.Data why) a = absurd a
 own_lines held dir old new stop.Read a = refl

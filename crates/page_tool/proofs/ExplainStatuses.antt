@@ -3,7 +3,6 @@ use Rattle.std.proofs.Common.{◌≡◌, ◌≢◌, ℕ, List, Option, None, Som
 use Rattle.std.specs.Io.KnownBytes.{Appends}
 use Rattle.std.specs.Prelude.{IfSome, ◌⊎◌}
 use Rattle.page_check.specs.Refusing.{FilesRefuse}
-use Rattle.page_check.specs.declared.refused.MakeRefused.{MakeRefused}
 use Rattle.page_check.specs.Roots.{is_root}
 use Rattle.page_datum.specs.declared.files.Files.{Files}
 use Rattle.page_io.specs.FolderContents.{FolderContents}
@@ -12,7 +11,7 @@ use Rattle.page_tool.specs.Codes.{status_for}
 use Rattle.page_tool.specs.Exact.{Ends}
 use Rattle.page_tool.specs.Files.{files_of}
 use Rattle.page_tool.specs.Lines.{Says, stop_text}
-use Rattle.page_tool.specs.LoadedSets.{IsRefusedFor, IsSetWith, IsSetWithout}
+use Rattle.page_tool.specs.LoadedSets.{IsSetWith, IsSetWithout}
 use Rattle.page_tool.specs.SetTexts.{WritesText, WritesTextPart}
 use Rattle.page_tool.specs.declared.status.Status.{Status}
 use Rattle.page_tool.specs.declared.status.Status.TheVariants as status
@@ -76,14 +75,9 @@ pub explain_cause : (held : Option FolderContents) (dir root : List ℕ) (old ne
     → ExplainAnswers held dir root old new (Err why) → IsReported why s → ExplainCause held dir root s
 explain_cause held dir root old new why s a r = reported (ExplainCause held dir root) why s r (own_cause held dir root old new why a) tt
 
-refused_lines : (held : Option FolderContents) (dir root : List ℕ) (why : MakeRefused) → IfSome held (λ h. IsRefusedFor h dir why)
-    → ExplainLines held dir root status.SetRefused (stop_text (stop.Set why) root)
-refused_lines None dir root why c = tt
-refused_lines (Some h) dir root why c = (why, c, refl)
-
 own_lines : (held : Option FolderContents) (dir root : List ℕ) (old new : Option (List ℕ)) (why : CommandStop)
     → ExplainAnswers held dir root old new (Err why) → ExplainLines held dir root (status_for why) (stop_text why root)
-own_lines held dir root old new (stop.Set why) a = refused_lines held dir root why a.1
+own_lines held dir root old new (stop.Set why) a = (why, a.1, refl)
 own_lines held dir root old new (stop.Fault fault) a = absurd a
 own_lines held dir root old new (stop.Data why) a = absurd a
 own_lines held dir root old new stop.Read a = refl

@@ -1,6 +1,7 @@
 pub mod AskedRuns
 pub mod CheckStatuses
 pub mod Endings
+pub mod ErrorFree
 pub mod Exacts
 pub mod ExplainStatuses
 pub mod MadeTexts

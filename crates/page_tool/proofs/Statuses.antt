@@ -6,10 +6,9 @@ use Rattle.page_io.specs.FolderContents.{FolderContents}
 use Rattle.page_datum.specs.Reading.{IsNoDatum}
 use Rattle.page_datum.specs.declared.fault.ExecFault.{ExecFault}
 use Rattle.page_datum.specs.declared.refused.DataRefused.{DataRefused}
-use Rattle.page_check.specs.declared.refused.MakeRefused.{MakeRefused}
 use Rattle.page_tool.specs.Codes.{status_for}
 use Rattle.page_tool.specs.Lines.{Says, StatusText, stop_text}
-use Rattle.page_tool.specs.LoadedSets.{IsRefusedFor, IsSetWith}
+use Rattle.page_tool.specs.LoadedSets.{IsSetWith}
 use Rattle.page_tool.specs.Output.{Faults, FaultsWith, RenderCause, RenderOutput, StatusCause, StatusOutput}
 use Rattle.page_tool.specs.declared.status.Status.{Status}
 use Rattle.page_tool.specs.declared.status.Status.TheVariants as status
@@ -81,7 +80,7 @@ own_cause : (held : Option FolderContents) (input : Option (List ℕ)) (dir root
     → StatusCause held input dir root (status_for why)
 own_cause held input dir root (stop.Set why) c = refused_for held dir why c
 own_cause held input dir root (stop.Fault fault) c = (c.0, some_fault held input dir root fault c.1)
-own_cause held input dir root (stop.Data why) c = (c.0, no_data input why c.1)
+own_cause held input dir root (stop.Data why) c = (c.0, no_data input why c.1.1)
 own_cause held input dir root stop.Read c = tt
 own_cause held input dir root stop.Write c = c
 own_cause held input dir root stop.NoTemplate c = c
@@ -117,27 +116,11 @@ pub was_write : (why : CommandStop) (s : Status) → IsReported why s → s ≡ 
 was_write why s (inl e) is = own_write why (sym e ∙ is)
 was_write why s (inr e) is = let h : status.Memory ≡ status.WriteFault = sym e ∙ is in cc
 
-text_set : (held : Option FolderContents) (dir name : List ℕ) (why : MakeRefused) → IfSome held (λ h. IsRefusedFor h dir why)
-    → IfSome held (λ h. (w : MakeRefused) × IsRefusedFor h dir w × (stop_text (stop.Set why) name ≡ stop_text (stop.Set w) name))
-text_set None dir name why c = tt
-text_set (Some h) dir name why c = (why, c, refl)
-
-text_data : (input : Option (List ℕ)) (name : List ℕ) (why : DataRefused) → IfSome input (IsNoDatum why)
-    → IfSome input (λ i. (w : DataRefused) × IsNoDatum w i × (stop_text (stop.Data why) name ≡ stop_text (stop.Data w) name))
-text_data None name why c = tt
-text_data (Some i) name why c = (why, c, refl)
-
-text_fault : (held : Option FolderContents) (input : Option (List ℕ)) (dir name : List ℕ) (fault : ExecFault) → FaultsWith held input dir name fault
-    → StatusText held input dir name status.ExecFault (stop_text (stop.Fault fault) name)
-text_fault None input dir name fault f = tt
-text_fault (Some h) None dir name fault f = tt
-text_fault (Some h) (Some i) dir name fault f = (f.0, fault, f.1, f.2, refl)
-
 own_text : (held : Option FolderContents) (input : Option (List ℕ)) (dir name : List ℕ) (why : CommandStop) → RenderCause held input dir name (Err why)
     → StatusText held input dir name (status_for why) (stop_text why name)
-own_text held input dir name (stop.Set why) c = text_set held dir name why c
-own_text held input dir name (stop.Fault fault) c = text_fault held input dir name fault c.1
-own_text held input dir name (stop.Data why) c = text_data input name why c.1
+own_text held input dir name (stop.Set why) c = (why, c, refl)
+own_text held input dir name (stop.Fault fault) c = (fault, c.1, refl)
+own_text held input dir name (stop.Data why) c = (why, c.1, refl)
 own_text held input dir name stop.Read c = refl
 own_text held input dir name stop.Write c = refl
 own_text held input dir name stop.NoTemplate c = refl

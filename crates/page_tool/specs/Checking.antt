@@ -11,7 +11,7 @@ use Rattle.page_io.specs.FolderContents.{FolderContents}
 use Rattle.page_tool.specs.Exact.{Ends}
 use Rattle.page_tool.specs.Files.{files_of}
 use Rattle.page_tool.specs.Lines.{stop_text}
-use Rattle.page_tool.specs.LoadedSets.{IsRefusedFor, IsSet, IsLoadedSetOf}
+use Rattle.page_tool.specs.LoadedSets.{IsRefusedFor, IsSet, IsSetRefusedFor, IsLoadedSetOf}
 use Rattle.page_tool.specs.SetTexts.{TextOutput, WritesText, WritesTextPart}
 use Rattle.page_tool.specs.declared.status.Status.{Status}
 use Rattle.page_tool.specs.declared.status.Status.TheVariants as status
@@ -42,7 +42,7 @@ CheckAnswers held dir old new (Ok _) = WritesText held (λ h. IsSetText h dir) o
 CheckAnswers held dir old new (Err stop.Write) =
     WritesTextPart held (λ h. IsSetText h dir) old new
 CheckAnswers held dir old new (Err (stop.Set why)) =
-    (new ≡ old) × IfSome held (λ h. IsRefusedFor h dir why)
+    (new ≡ old) × IsSetRefusedFor held dir why
 CheckAnswers held dir old new (Err stop.Read) = new ≡ old
 CheckAnswers held dir old new (Err stop.Memory) = new ≡ old
 CheckAnswers held dir old new (Err _) = ⊥
@@ -75,7 +75,7 @@ pub record CheckExact
 abbrev pub CheckLines : Option FolderContents → List ℕ → Status → List ℕ → Type 0
 CheckLines held dir status.Ok text = text ≡ []
 CheckLines held dir status.SetRefused text =
-    IfSome held (λ h. (why : MakeRefused) × IsRefusedFor h dir why × (text ≡ refusal_text why))
+    (why : MakeRefused) × IsSetRefusedFor held dir why × (text ≡ refusal_text why)
 CheckLines held dir status.ReadFault text = text ≡ stop_text stop.Read []
 CheckLines held dir status.WriteFault text = text ≡ stop_text stop.Write []
 CheckLines held dir status.Memory text = text ≡ stop_text stop.Memory []

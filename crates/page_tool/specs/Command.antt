@@ -1,14 +1,18 @@
 -- What each command promises of the status that it ends in.
-use Rattle.std.specs.Prelude.{◌≡◌, ◌⊎◌, ℕ, List, Option, IfSome, ⊤}
+use Rattle.std.specs.Prelude.{◌≡◌, ◌⊎◌, ℕ, Bool, true, false, List, Option, IfSome, ⊤}
 use Rattle.std.specs.Io.KnownBytes.{IsAtEnd}
+use Rattle.page_check.specs.WithoutErrors.{HaveNoError}
+use Rattle.page_io.specs.FolderContents.{FolderContents}
 use Rattle.page_tool.specs.Checking.{CheckCause, CheckExact, CheckLines, CheckOutput}
 use Rattle.page_tool.specs.Devices.{Devices, IsUnread}
 use Rattle.page_tool.specs.Exact.{IsExact}
 use Rattle.page_tool.specs.Explaining.{ExplainCause, ExplainExact, ExplainLines, ExplainOutput}
+use Rattle.page_tool.specs.Files.{files_of}
 use Rattle.page_tool.specs.Lines.{usage_text, StatusText}
 use Rattle.page_tool.specs.LoadedSets.{IsSetWith}
 use Rattle.page_tool.specs.Making.{MakeCause, MakeExact, MakeLines, MakeOutput}
 use Rattle.page_tool.specs.Output.{StatusOutput, StatusCause, WritesSound}
+use Rattle.page_tool.specs.Sections.{made_files}
 use Rattle.page_tool.specs.Words.{Command, no_command, check, render, explain, make}
 use Rattle.page_tool.specs.declared.status.Status.{Status}
 use Rattle.page_tool.specs.declared.status.Status.TheVariants as status
@@ -86,3 +90,29 @@ Lines (check dir) before s text = CheckLines before.held dir s text
 Lines (render dir root) before s text = StatusText before.held before.left dir root s text
 Lines (explain dir root) before s text = ExplainLines before.held dir root s text
 Lines (make sections) before s text = MakeLines sections s text
+
+-- whether the files of a command were accepted, by its status
+abbrev pub is_accepted : Status → Bool
+is_accepted status.Ok = true
+is_accepted status.ExecFault = true
+is_accepted status.DataRefused = true
+is_accepted status.WriteFault = true
+is_accepted status.NoTemplate = true
+is_accepted _ = false
+
+-- that no error stands on the paths of the roots of a command's files, on one of them or on two
+abbrev pub CommandHasNoError : Command → Option FolderContents → Type 0
+CommandHasNoError no_command held = ⊤
+CommandHasNoError (check dir) held = IfSome held (λ h. HaveNoError (files_of h dir).list)
+CommandHasNoError (render dir root) held = IfSome held (λ h. HaveNoError (files_of h dir).list)
+CommandHasNoError (explain dir root) held = IfSome held (λ h. HaveNoError (files_of h dir).list)
+CommandHasNoError (make sections) held = HaveNoError (made_files sections).list
+
+-- that the files of a command are refused only for a cause: not where they have templates and a root
+-- within the limits, and no error stands on a path of a root, or on two
+abbrev pub CommandNeedsCause : Command → Option FolderContents → Type 0
+CommandNeedsCause no_command held = ⊤
+CommandNeedsCause (check dir) held = IfSome held (λ h. HaveNoError (files_of h dir).list → ⊥)
+CommandNeedsCause (render dir root) held = IfSome held (λ h. HaveNoError (files_of h dir).list → ⊥)
+CommandNeedsCause (explain dir root) held = IfSome held (λ h. HaveNoError (files_of h dir).list → ⊥)
+CommandNeedsCause (make sections) held = HaveNoError (made_files sections).list → ⊥

@@ -7,7 +7,7 @@ use Rattle.page_tool.specs.Checking.{CheckCause, CheckLines}
 use Rattle.page_tool.specs.Exact.{Ends}
 use Rattle.page_tool.specs.Files.{files_of}
 use Rattle.page_tool.specs.Lines.{stop_text}
-use Rattle.page_tool.specs.LoadedSets.{IsRefusedFor, IsLoadedSetOf, IsSetWith, IsSetWithout}
+use Rattle.page_tool.specs.LoadedSets.{IsLoadedSetOf, IsSetRefusedFor, IsSetWith, IsSetWithout}
 use Rattle.page_tool.specs.SetTexts.{TextOutput, WritesText, WritesTextPart}
 use Rattle.page_tool.specs.declared.status.Status.{Status}
 use Rattle.page_tool.specs.declared.status.Status.TheVariants as status
@@ -28,7 +28,7 @@ ExplainAnswers held dir root old new (Ok _) =
 ExplainAnswers held dir root old new (Err stop.Write) =
     WritesTextPart held (λ h. IsExplanation h dir root) old new
 ExplainAnswers held dir root old new (Err (stop.Set why)) =
-    (new ≡ old) × IfSome held (λ h. IsRefusedFor h dir why)
+    (new ≡ old) × IsSetRefusedFor held dir why
 ExplainAnswers held dir root old new (Err stop.NoTemplate) =
     (new ≡ old) × IfSome held (λ h. IsSetWithout h dir root)
 ExplainAnswers held dir root old new (Err stop.Read) = new ≡ old

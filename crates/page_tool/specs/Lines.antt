@@ -1,19 +1,18 @@
 -- The lines for people.
-use Rattle.std.specs.Prelude.{◌≡◌, ℕ, codes, List, [], ◌∷◌, ◌++◌, Option, IfSome, ◌⊎◌}
+use Rattle.std.specs.Prelude.{◌≡◌, ℕ, codes, List, [], ◌∷◌, ◌++◌, Option, ◌⊎◌}
 use Rattle.std.specs.Fmt.{decimal}
 use Rattle.std.specs.Io.KnownBytes.{Appends}
 use Rattle.page_io.specs.FolderContents.{FolderContents}
 use Rattle.page_check.specs.RefusalTexts.{refusal_text}
 use Rattle.page_check.specs.declared.refused.MakeRefused.{MakeRefused}
-use Rattle.page_datum.specs.Execution.{Execution, faulted}
 use Rattle.page_datum.specs.Kinds.{fault_kind, data_refusal}
 use Rattle.page_datum.specs.Legible.{legible}
-use Rattle.page_datum.specs.Reading.{IsNoDatum}
 use Rattle.page_datum.specs.declared.fault.ExecFault.{ExecFault}
 use Rattle.page_datum.specs.declared.refused.DataRefused.{DataRefused}
 use Rattle.page_tool.specs.Codes.{status_for}
-use Rattle.page_tool.specs.LoadedSets.{IsRefusedFor}
-use Rattle.page_tool.specs.Output.{IsRendering, WhenKnown}
+use Rattle.page_tool.specs.LoadedSets.{IsSetRefusedFor}
+use Rattle.page_tool.specs.Input.{IsInputRefusedFor}
+use Rattle.page_tool.specs.Output.{FaultsWith}
 use Rattle.page_tool.specs.declared.status.Status.{Status}
 use Rattle.page_tool.specs.declared.status.Status.TheVariants as status
 use Rattle.page_tool.specs.declared.stop.CommandStop.{CommandStop}
@@ -49,18 +48,18 @@ Says why name s old new =
     ((s ≡ status_for why) × Appends old new (stop_text why name))
     ⊎ ((s ≡ status.Memory) × Appends old new (stop_text stop.Memory name))
 
--- the lines of a command's status, for what the folder holds and the input has, where these are known
+-- The lines of a command's status. Whatever the devices tell, they are those of one cause; and it is that of what the folder holds and the
+-- input has, where these are known.
 abbrev pub StatusText : Option FolderContents → Option (List ℕ) → List ℕ → List ℕ → Status → List ℕ → Type 0
 StatusText held input dir name status.Ok text = text ≡ []
 StatusText held input dir name status.Usage text = ⊥
 StatusText held input dir name status.ExecFault text =
-    WhenKnown held input (λ h i. (e : Execution) × (fault : ExecFault) × IsRendering h dir name i e
-    × (e.ending ≡ faulted fault) × (text ≡ stop_text (stop.Fault fault) name))
+    (fault : ExecFault) × FaultsWith held input dir name fault
+    × (text ≡ stop_text (stop.Fault fault) name)
 StatusText held input dir name status.SetRefused text =
-    IfSome held (λ h. (why : MakeRefused) × IsRefusedFor h dir why × (text ≡ refusal_text why))
+    (why : MakeRefused) × IsSetRefusedFor held dir why × (text ≡ refusal_text why)
 StatusText held input dir name status.DataRefused text =
-    IfSome input (λ i. (why : DataRefused) × IsNoDatum why i
-    × (text ≡ stop_text (stop.Data why) name))
+    (why : DataRefused) × IsInputRefusedFor input why × (text ≡ stop_text (stop.Data why) name)
 StatusText held input dir name status.ReadFault text = text ≡ stop_text stop.Read name
 StatusText held input dir name status.WriteFault text = text ≡ stop_text stop.Write name
 StatusText held input dir name status.NoTemplate text = text ≡ stop_text stop.NoTemplate name

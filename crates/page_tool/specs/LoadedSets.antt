@@ -2,6 +2,7 @@
 use Rattle.std.specs.Prelude.{◌≡◌, ◌≢◌, ℕ, true, false, List, Option, IfSome, Result, Ok, Err, ⊤}
 use Rattle.page_check.specs.CheckedSets.{CheckedData, IsChecked}
 use Rattle.page_check.specs.Refusing.{IsRefused}
+use Rattle.page_datum.specs.declared.files.NamedFile.{NamedFile}
 use Rattle.page_check.specs.Roots.{is_root}
 use Rattle.page_check.specs.declared.checked.Checked.{Checked}
 use Rattle.page_check.specs.declared.refused.MakeRefused.{MakeRefused}
@@ -35,10 +36,18 @@ pub record IsRefusedFor (held : FolderContents) (dir : List ℕ) (why : MakeRefu
   pub known : why ≢ make.Memory
   pub cause : IsRefused (files_of held dir).list why
 
+-- some files are refused so: a cause that files have is none of memory
+abbrev pub IsCause : MakeRefused → Type 0
+IsCause why = (files : List NamedFile) × (why ≢ make.Memory) × IsRefused files why
+
+-- the files of a directory are refused so, where the folder tells its files; and some files always
+abbrev pub IsSetRefusedFor : Option FolderContents → List ℕ → MakeRefused → Type 0
+IsSetRefusedFor held dir why = IsCause why × IfSome held (λ h. IsRefusedFor h dir why)
+
 -- how making the set of a directory answers
 abbrev pub LoadSetAnswers : Option FolderContents → List ℕ → Result Checked CommandStop → Type 0
 LoadSetAnswers held dir (Ok set) = IfSome held (λ h. IsLoadedSetOf h dir set)
-LoadSetAnswers held dir (Err (stop.Set why)) = IfSome held (λ h. IsRefusedFor h dir why)
+LoadSetAnswers held dir (Err (stop.Set why)) = IsSetRefusedFor held dir why
 LoadSetAnswers held dir (Err stop.Read) = ⊤
 LoadSetAnswers held dir (Err stop.Memory) = ⊤
 LoadSetAnswers held dir (Err _) = ⊥

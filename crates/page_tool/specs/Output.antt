@@ -11,7 +11,8 @@ use Rattle.page_datum.specs.declared.refused.DataRefused.{DataRefused}
 use Rattle.page_check.specs.declared.refused.MakeRefused.{MakeRefused}
 use Rattle.page_set.specs.Executions.{IsExecution, IsSoundPageOfFiles}
 use Rattle.page_tool.specs.Files.{files_of}
-use Rattle.page_tool.specs.LoadedSets.{IsRefusedFor, IsSetWith, IsSetWithout}
+use Rattle.page_tool.specs.Input.{IsInputRefusedFor}
+use Rattle.page_tool.specs.LoadedSets.{IsRefusedFor, IsSetRefusedFor, IsSetWith, IsSetWithout}
 use Rattle.page_tool.specs.declared.status.Status.{Status}
 use Rattle.page_tool.specs.declared.status.Status.TheVariants as status
 use Rattle.page_tool.specs.declared.stop.CommandStop.{CommandStop}
@@ -98,10 +99,10 @@ IsReady held input dir root = IfSome held (λ h. IsSetWith h dir root) × IfSome
 
 -- why rendering ended so
 abbrev pub RenderCause : Option FolderContents → Option (List ℕ) → List ℕ → List ℕ → Result ⊤ CommandStop → Type 0
-RenderCause held input dir root (Err (stop.Set why)) = IfSome held (λ h. IsRefusedFor h dir why)
+RenderCause held input dir root (Err (stop.Set why)) = IsSetRefusedFor held dir why
 RenderCause held input dir root (Err stop.NoTemplate) = IfSome held (λ h. IsSetWithout h dir root)
 RenderCause held input dir root (Err (stop.Data why)) =
-    IfSome held (λ h. IsSetWith h dir root) × IfSome input (IsNoDatum why)
+    IfSome held (λ h. IsSetWith h dir root) × IsInputRefusedFor input why
 RenderCause held input dir root (Err stop.Read) = ⊤
 RenderCause held input dir root (Err stop.Memory) = ⊤
 RenderCause held input dir root (Err (stop.Fault fault)) =

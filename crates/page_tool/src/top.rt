@@ -1,6 +1,7 @@
-ghost use Rattle.std.specs.Prelude.{◌≡◌, ◌↔◌};
+ghost use Rattle.std.specs.Prelude.{◌≡◌, ◌↔◌, IsTrue};
 ghost use Rattle.page_tool.specs.Asking.{command_asked};
-ghost use Rattle.page_tool.specs.Command.{WritesSoundly};
+ghost use Rattle.page_tool.specs.Command.{CommandHasNoError, CommandNeedsCause};
+ghost use Rattle.page_tool.specs.Command.{WritesSoundly, is_accepted};
 ghost use Rattle.page_tool.specs.Devices.{devices};
 ghost use Rattle.page_tool.specs.Runs.{Runs};
 ghost use Rattle.page_tool.specs.Words.{texts, command_of, no_command};
@@ -47,6 +48,14 @@ pub fn run<F: Folder, I: Source, O: Sink, E: Sink>(
         (devices (F.held result.1) (F.faults result.1) (I.left input.new) (I.faults input.new)
         (O.taken out.new) (O.faults out.new) (E.taken err.new) (E.faults err.new))
         result.0 }
+
+    // Files that have templates and a root within the limits, and no error on a path of a root, or
+    // on two, are not refused; and where files were accepted, they are such files. As above, this
+    // says nothing by itself over real folders.
+    ensures error_free { IsTrue (is_accepted result.0)
+        → CommandHasNoError (command_of (texts words.now)) (F.held folder) }
+    ensures complete { result.0 ≡ Status.SetRefused
+        → CommandNeedsCause (command_of (texts words.now)) (F.held folder) }
 
     // The words are those of no command exactly at status 2.
     ensures usage { (result.0 ≡ Status.Usage) ↔ (command_of (texts words.now) ≡ no_command) }

@@ -4,3 +4,4 @@ pub mod JudgedCharts
 pub mod KeptCalls
 pub mod KeptLaws
 pub mod SameForests
+pub mod WithoutErrors

@@ -15,6 +15,7 @@ use Rattle.place_chart.specs.Exact.{places_of}
 use Rattle.place_chart.specs.Least.{IsLeastChart, IsInConflict}
 use Rattle.place_chart.specs.Summaries.{IsConflictFreeSummary, chart_of}
 use Rattle.place_chart.specs.declared.summary.Summary.{Summary}
+use Rattle.place_show.specs.NoErrors.{HaveNoErrors}
 use Rattle.place_show.specs.Showings.{Shows}
 use Rattle.place_show.specs.declared.showing.Showing.{Showing}
 use Rattle.tpl_paths.specs.Edges.{Point, finish_point}
@@ -115,3 +116,7 @@ SetRefuses forest names refused.Memory = ⊤
 abbrev pub Infers : ForestData → List (List ℕ) → Result ChartData SetRefused → Type 0
 Infers forest names (Ok chart) = IsChartOfSet forest names chart
 Infers forest names (Err e) = SetRefuses forest names e
+
+-- Where no error stands on the paths of the roots, and the least chart has no more pairs than it may, the set is refused for want of memory alone.
+abbrev pub NeedsError : ForestData → List (List ℕ) → SetRefused → Type 0
+NeedsError forest names why = HaveNoErrors forest names → (HasTooManyPairs forest names → ⊥) → why ≡ refused.Memory

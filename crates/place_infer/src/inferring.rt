@@ -1,8 +1,9 @@
-ghost use Rattle.std.specs.Prelude.{◌≡◌, false, true};
+ghost use Rattle.std.specs.Prelude.{◌≡◌, IfErr, false, true};
 ghost use Rattle.place_core.specs.declared.place.Place.TheVariants as place;
-ghost use Rattle.place_infer.specs.Inferring.{Infers, IsRefusal};
+ghost use Rattle.place_infer.specs.Inferring.{Infers, IsRefusal, NeedsError};
 ghost use Rattle.place_chart.specs.Least.{IsLeastChart};
 ghost use Rattle.place_infer.specs.Inferring as spec;
+ghost use Rattle.tpl_tree.specs.Forests.{HasAscendingNames};
 
 use crate::chart::{Chart, chart_of_summaries};
 use crate::conflict::{conflict_in_summary, ends_elsewhere};
@@ -99,7 +100,10 @@ fn judged(
 /// Takes time in proportion to the texts of the pairs that are made, times the logarithm of the controls of a template; twice that where an
 /// error is shown.
 pub fn infer(alloc: Global, forest: &Forest, roots: &Names) -> Result<Chart, SetRefused>
-    ensures { Infers forest.now roots.now result }
+    ensures answers { Infers forest.now roots.now result }
+    // A refusal for another cause than its pairs and want of memory needs an error on a path.
+    ensures complete { HasAscendingNames forest.now
+        → IfErr result (NeedsError forest.now roots.now) }
 {
     let numbers = root_numbers(alloc, forest, roots)?;
     let flows = flows_of(alloc, forest)?;

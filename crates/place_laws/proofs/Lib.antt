@@ -3,6 +3,7 @@ pub mod Arrivals
 pub mod Comings
 pub mod CommonMoves
 pub mod ConflictEdges
+pub mod ErrorFree
 pub mod NoErrors
 pub mod NoRefusal
 pub mod RefusalEvidences

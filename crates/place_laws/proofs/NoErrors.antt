@@ -1,9 +1,9 @@
 -- On the paths of a set that has a chart no error stands.
-use Rattle.std.proofs.Common.{◌≡◌, ℕ, List, [], ◌∷◌, All, Some, None, Result, Ok, Err, refl, sym, ap, ◌∙◌, subst, Bool, true, false, if◌then◌else◌}
-use Rattle.std.specs.Prelude.{Contains}
+use Rattle.std.proofs.Common.{◌≡◌, ℕ, List, [], ◌∷◌, All, Some, None, Result, Ok, Err, refl, sym, ap, ◌∙◌, subst, Bool, true, false, inl, inr, if◌then◌else◌}
+use Rattle.std.specs.Prelude.{Contains, ◌⊎◌}
 use Rattle.html_step.specs.Holes.{Holed, after_hole}
 use Rattle.html_step.specs.Steps.{after_text}
-use Rattle.place_flow.specs.Covering.{IsClosedByName, IsCovered, IsStack, Pair, pair, pairs_along, read_moves}
+use Rattle.place_flow.specs.Covering.{IsChartOf, IsClosedByName, IsCovered, IsStack, Pair, pair, pairs_along, read_moves}
 use Rattle.place_flow.specs.HtmlCovering.{behind_hole, behind_text, html_language}
 use Rattle.place_core.proofs.Joins.{the_join_least}
 use Rattle.place_core.specs.place.PathPairs.{Clashes, ClashesApart, ClashesHole}
@@ -17,11 +17,18 @@ use Rattle.place_core.specs.declared.place.Place.{Place}
 use Rattle.place_core.specs.declared.place.Place.TheVariants as place
 use Rattle.place_core.specs.declared.step_err.StepErr.{StepErr}
 use Rattle.place_laws.proofs.TakenEdges.{is-on, taken-edge}
-use Rattle.place_laws.specs.Exactness.{ChartedSetsHaveNoError, stands_at, state_at}
+use Rattle.place_laws.specs.Exactness.{ChartedSetsHaveNoError, ConflictFreeSetsHaveNoOtherError, EndsAreRefusedAlone}
+use Rattle.place_show.proofs.ErrorsStand.{end-shown, shown-root}
+use Rattle.place_show.specs.NoErrors.{HasNoOtherError, HaveNoOtherErrors, IsPathOfSet, stands_at}
+use Rattle.place_show.specs.Showings.{path_state_after}
+use Rattle.place_show.specs.declared.showing.Showing.{Showing}
+use Rattle.place_core.specs.page.Html.{start}
+use Rattle.place_flow.proofs.HtmlCovers.{chart-covers}
+use Rattle.place_chart.specs.Least.{IsLeastChart}
 use Rattle.place_flow.specs.Transfer.{edge_step, reaches_or_refused, may_use, use_at}
 use Rattle.place_flow.specs.declared.step.EdgeStep.{EdgeStep}
 use Rattle.place_flow.specs.declared.step.EdgeStep.TheVariants.{Refused}
-use Rattle.place_infer.specs.Inferring.{EndsInText, root_numbers}
+use Rattle.place_infer.specs.Inferring.{EndsBy, EndsInText, IsRefusedByConflict, is_end_code, root_numbers}
 use Rattle.place_infer.proofs.JudgedCharts.{root-in}
 use Rattle.place_chart.specs.Exact.{places_of}
 use Rattle.place_chart.specs.Charts.{IsClosedByNumber, IsEntered}
@@ -167,22 +174,57 @@ root-ends : (forest : ForestData) (names : List (List ℕ)) (summaries : List Su
     → Contains names name → number_named name forest ≡ Some t → EndsInText (chart_of summaries t place.Text finish_point)
 root-ends forest names summaries name t all among number = All-contains (λ (r : ℕ). EndsInText (chart_of summaries r place.Text finish_point)) (root_numbers forest names) t all (root-in forest names name t among number)
 
+-- a chart without conflict covers the paths of the roots, so none of them has another error than that of an end
+module _ (forest : ForestData) (names : List (List ℕ)) (summaries : List Summary) (least : IsLeastChart forest (root_numbers forest names) place.Text summaries) (conflict_free : All IsConflictFreeSummary summaries)
+    (name : List ℕ) (t : ℕ) (among : Contains names name) (number : number_named name forest ≡ Some t) where
+  abbrev pairs_of : List Move → List (Pair Place)
+  pairs_of ms = pairs_along forest (places_of forest summaries) (signs_of ms) (pair name place.Text ∷ [])
+
+  root-chart : IsChartOf html_language forest (places_of forest summaries) name place.Text
+  root-chart = root-is-chart forest summaries name t place.Text least.valid least.closed conflict_free number
+      (All-contains (λ (r : ℕ). IsEntered forest (chart_of summaries) r place.Text) (root_numbers forest names) t least.entered (root-in forest names name t among number))
+
+  cover : (ms : List Move) → IsPathOfSet forest name ms → IsCovered html_language forest (places_of forest summaries) place.Text (stands_at forest name ms) (pairs_of ms) (path_state_after ms)
+  cover ms path = chart-covers forest (places_of forest summaries) name place.Text start.at root-chart (tt, record { own = place.Text; stands = refl; valid = tt; below = refl }) ms path
+
+  cover-there : (ms ns : List Move) → IsPathOfSet forest name ns → stands_at forest name ns ≡ stands_at forest name ms → IsCovered html_language forest (places_of forest summaries) place.Text (stands_at forest name ms) (pairs_of ns) (path_state_after ns)
+  cover-there ms ns other meet = subst (λ (a : Standing). IsCovered html_language forest (places_of forest summaries) place.Text a (pairs_of ns) (path_state_after ns)) meet (cover ns other)
+
+  no-other : HasNoOtherError forest name
+  no-other = record {
+    one = λ ms e path inside at errs.
+        clear-at forest summaries least.valid least.closed conflict_free (stands_at forest name ms) (pairs_of ms) (path_state_after ms) e (cover ms path) inside at errs;
+    two = λ ms ns e path other meet inside at clash.
+        clash-at forest summaries least.valid least.closed conflict_free (stands_at forest name ms) (pairs_of ms) (pairs_of ns) (path_state_after ms) (path_state_after ns) e (cover ms path) (cover-there ms ns other meet) inside at clash;
+    apart = λ ms ns common e path other meet on inside at errs.
+        apart-at forest summaries least.valid least.closed conflict_free root-chart.closed (stands_at forest name ms) (pairs_of ms) (pairs_of ns) (path_state_after ms) (path_state_after ns) common e (cover ms path) (cover-there ms ns other meet) on inside at errs;
+    joins = λ ms ns a b path other meet sa rb none.
+        join-at forest summaries least.valid least.closed conflict_free (stands_at forest name ms) (pairs_of ms) (pairs_of ns) (path_state_after ms) (path_state_after ns) a b (cover ms path) (cover-there ms ns other meet) sa rb none;
+  }
+
+pub no-other-error : ConflictFreeSetsHaveNoOtherError
+no-other-error forest names summaries least conflict_free name t among number = no-other forest names summaries least conflict_free name t among number
+
 pub no-error : ChartedSetsHaveNoError
-no-error forest names chart name t is among number =
-    let valid = is.least.valid in let closed = is.least.closed in let conflict_free = is.conflict_free in
-    let cover = is.covers name t among number in
-    let pairs : List Move → List (Pair Place) = λ ms. pairs_along forest (places_of forest chart.summaries) (signs_of ms) (pair name place.Text ∷ []) in
+no-error forest names chart is name t among number =
+    let summaries = chart.summaries in
     record {
-      one = λ ms e path inside at errs. clear-at forest chart.summaries valid closed conflict_free (stands_at forest name ms) (pairs ms) (state_at ms) e (cover ms path) inside at errs;
-      two = λ ms ns e path other meet inside at clash. clash-at forest chart.summaries valid closed conflict_free (stands_at forest name ms) (pairs ms) (pairs ns) (state_at ms) (state_at ns) e (cover ms path)
-          (subst (λ (a : Standing). IsCovered html_language forest (places_of forest chart.summaries) place.Text a (pairs ns) (state_at ns)) meet (cover ns other)) inside at clash;
-      apart = λ ms ns common e path other meet on inside at errs. apart-at forest chart.summaries valid closed conflict_free
-          (root-is-chart forest chart.summaries name t place.Text valid closed conflict_free number
-          (All-contains (λ (r : ℕ). IsEntered forest (chart_of chart.summaries) r place.Text) (root_numbers forest names) t is.least.entered (root-in forest names name t among number))).closed
-          (stands_at forest name ms) (pairs ms) (pairs ns) (state_at ms) (state_at ns) common e (cover ms path)
-          (subst (λ (z : Standing). IsCovered html_language forest (places_of forest chart.summaries) place.Text z (pairs ns) (state_at ns)) meet (cover ns other)) on inside at errs;
-      joins = λ ms ns a b path other meet sa rb none. join-at forest chart.summaries valid closed conflict_free (stands_at forest name ms) (pairs ms) (pairs ns) (state_at ms) (state_at ns) a b (cover ms path)
-          (subst (λ (z : Standing). IsCovered html_language forest (places_of forest chart.summaries) place.Text z (pairs ns) (state_at ns)) meet (cover ns other)) sa rb none;
-      ends = λ ms a path at sa. end-at forest chart.summaries valid closed conflict_free name t (pairs ms) (state_at ms) a number (root-ends forest names chart.summaries name t is.ends among number)
-          (subst (λ (z : Standing). IsCovered html_language forest (places_of forest chart.summaries) place.Text z (pairs ms) (state_at ms)) at (cover ms path)) sa;
+      others = no-other-error forest names summaries is.least is.conflict_free name t among number;
+      ends = λ ms a path at sa. end-at forest summaries is.least.valid is.least.closed is.conflict_free name t (pairs_of forest names summaries is.least is.conflict_free name t among number ms) (path_state_after ms) a number (root-ends forest names summaries name t is.ends among number)
+          (subst (λ (z : Standing). IsCovered html_language forest (places_of forest summaries) place.Text z (pairs_of forest names summaries is.least is.conflict_free name t among number ms) (path_state_after ms)) at (cover forest names summaries is.least is.conflict_free name t among number ms path)) sa;
     }
+
+-- so an end is refused only where no other error stands, and where none stands nothing else is
+not-both : (b : Bool) → b ≡ true → b ≡ false → ⊥
+not-both b e f = cc
+
+alone : (forest : ForestData) (names : List (List ℕ)) (summaries : List Summary) (sh : Showing) → IsLeastChart forest (root_numbers forest names) place.Text summaries → is_end_code sh.code ≡ true
+    → IsRefusedByConflict summaries sh ⊎ EndsBy forest names summaries sh → HaveNoOtherErrors forest names
+alone forest names summaries sh least is (inl c) = absurd (not-both (is_end_code sh.code) is c.code)
+alone forest names summaries sh least is (inr e) = no-other-error forest names summaries least e.conflict_free
+
+pub ends-alone : EndsAreRefusedAlone
+ends-alone forest names sh up r = (
+  (λ is. alone forest names r.summaries sh r.least is r.cause),
+  (λ free. (let t = shown-root forest sh up r.shows in ap is_end_code (end-shown forest sh up r.shows (free sh.root t.0 r.root t.1)))),
+)

@@ -22,7 +22,7 @@ use Rattle.place_flow.proofs.Covers.{walk_covers}
 use Rattle.place_flow.specs.Covering.{ChartByName, Covers, Holds, IsClosedByName, IsCovered, Language, LeadsOn, Pair, read_moves}
 use Rattle.place_flow.specs.Errors.{KeepsAlong, MeetApart, PartAlong}
 use Rattle.place_flow.specs.HtmlCovering.{behind_hole, behind_text, html_language}
-use Rattle.tpl_paths.specs.Edges.{Edge, calls, fills, passes, picks, start_in, writes}
+use Rattle.tpl_paths.specs.Edges.{calls, fills, passes, picks, start_in, writes}
 use Rattle.tpl_paths.specs.Paths.{IsPath, Move, Standing, along, back, reached}
 use Rattle.tpl_tree.specs.Forests.{ForestData}
 use Rattle.tpl_tree.specs.declared.pipe.Pipe.{Pipe}

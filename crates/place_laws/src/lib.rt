@@ -4,5 +4,9 @@
 mod exact_laws;
 mod path_laws;
 
-pub use exact_laws::{charted_sets_are_not_refused, charted_sets_have_no_error};
+pub use exact_laws::{
+    charted_sets_are_not_refused, charted_sets_have_no_error,
+    conflict_free_sets_have_no_other_error, ends_are_refused_alone,
+    error_free_logs_have_no_conflict,
+};
 pub use path_laws::{every_conflict_has_error, every_member_has_a_path, every_root_has_a_path};

@@ -2,6 +2,7 @@ pub mod Clash
 pub mod Conflict
 pub mod EdgesTogether
 pub mod Elsewhere
+pub mod ErrorsStand
 pub mod GoingTogether
 pub mod HoleClash
 pub mod HoleRefused
@@ -12,6 +13,7 @@ pub mod MetShown
 pub mod Missing
 pub mod Misuse
 pub mod Named
+pub mod NodeEdges
 pub mod Orders
 pub mod OwnApart
 pub mod TextRefused

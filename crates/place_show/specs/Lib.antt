@@ -4,6 +4,7 @@ pub mod Conflicts
 pub mod Ends
 pub mod LastApart
 pub mod Made
+pub mod NoErrors
 pub mod PathTexts
 pub mod Showings
 pub mod Taking

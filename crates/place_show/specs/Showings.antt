@@ -15,7 +15,7 @@ use Rattle.place_core.specs.declared.place.Place.TheVariants as place
 use Rattle.place_flow.specs.Errors.{MeetApart}
 use Rattle.place_flow.specs.Flows.{nodes_at}
 use Rattle.place_flow.specs.Transfer.{may_use, use_at}
-use Rattle.place_trace.specs.Replays.{IsPathReplay, name_or_none}
+use Rattle.place_trace.specs.Replays.{IsPathReplay, IsReplayOf, ReplayData, name_or_none}
 use Rattle.place_trace.specs.declared.chosen.Chosen.{Chosen}
 use Rattle.place_trace.specs.declared.replay.PathReplay.{PathReplay}
 use Rattle.place_show.specs.Ends.{last_node_of}
@@ -66,7 +66,7 @@ abbrev pub path_state_after : List Move → LexState ValueState
 path_state_after ms = read_moves html_language ms start.at
 
 -- what a path has read
-abbrev pub shown_state : {forest : ForestData} {w : PathReplay} → IsPathReplay forest w → LexState ValueState
+abbrev pub shown_state : {forest : ForestData} {w : ReplayData} → IsReplayOf forest w → LexState ValueState
 shown_state is = path_state_after is.moves
 
 -- A path of the root of a showing stands in its template, with its calls open.

@@ -6,6 +6,7 @@ mod clashing;
 mod conflicts;
 mod ending;
 mod joining;
+mod laws;
 mod making;
 mod met_apart;
 mod nodes;
@@ -17,5 +18,6 @@ mod together;
 mod unknown;
 
 pub use conflicts::{shown_conflict, shown_end};
+pub use laws::{only_ends_are_shown, shown_errors_stand};
 pub use printing::{choice_text, path_text};
 pub use showing::{Choice, Seen, Showing};

@@ -22,10 +22,9 @@ use Rattle.place_trace.proofs.OpenCalls.{opens-more}
 use Rattle.place_trace.proofs.OwnPlaces.{reaches-own}
 use Rattle.place_trace.proofs.Tellings.{edge-noted, told-append}
 use Rattle.place_trace.specs.Moving.{HasEntered, HasArrived, call_to, noted}
-use Rattle.place_trace.specs.Replays.{IsPathReplay, IsNameKnown, name_or_none, point_node, open_of, opens_of, told, told_of}
+use Rattle.place_trace.specs.Replays.{IsReplayOf, ReplayData, IsNameKnown, name_or_none, point_node, open_of, opens_of, told, told_of}
 use Rattle.place_trace.specs.declared.chosen.Chosen.{Chosen}
 use Rattle.place_trace.specs.declared.replay.ReplayedCall.{ReplayedCall}
-use Rattle.place_trace.specs.declared.replay.PathReplay.{PathReplay}
 use Rattle.place_flow.proofs.ClearSteps.{IsTaken, step-clear}
 use Rattle.place_flow.proofs.Goings.{clear-append, read-append}
 use Rattle.place_flow.proofs.NamedParts.{edge_within, has_name, named, numbered, same_start}
@@ -37,9 +36,9 @@ use Rattle.tpl_paths.specs.Paths.{HasCall, IsMove, IsPath, Move, Open, Standing,
 use Rattle.tpl_tree.specs.Forests.{ForestData, HasAscendingNames, tree_name_at, number_named}
 
 -- one move more, from where the path stands
-module _ (forest : ForestData) (w new : PathReplay) (is : IsPathReplay forest w) where
+module _ (forest : ForestData) (w new : ReplayData) (is : IsReplayOf forest w) where
   abbrev here : Standing
-  here = open_standing (opens_of forest w.open_calls.items) is.name w.point
+  here = open_standing (opens_of forest w.open_calls) is.name w.point
 
   abbrev state : LexState ValueState
   state = read_moves html_language is.moves start.at
@@ -53,15 +52,15 @@ module _ (forest : ForestData) (w new : PathReplay) (is : IsPathReplay forest w)
     name_is : tree_name_at forest new.template ≡ Some name
     moves : IsMove forest here m
     clear : IsClear forest here state (m ∷ [])
-    leads : after_moves forest here m ≡ open_standing (opens_of forest new.open_calls.items) name new.point
+    leads : after_moves forest here m ≡ open_standing (opens_of forest new.open_calls) name new.point
     own : placed (read_moves html_language (m ∷ []) state) ≡ Some new.place
     valid : IsValid new.place
     tells : told forest here (m ∷ []) ≡ map (told_of forest) more
-    notes : new.chosen.items ≡ w.chosen.items ++ more
+    notes : new.chosen ≡ w.chosen ++ more
 
   -- the path that goes on by a move
   abbrev pub IsBy : Move → Type 0
-  IsBy m = (now : IsPathReplay forest new) × (now.moves ≡ is.moves ++ m ∷ [])
+  IsBy m = (now : IsReplayOf forest new) × (now.moves ≡ is.moves ++ m ∷ [])
 
   one-more : (m : Move) (more : List Chosen) → IsNext m more → IsBy m
   one-more m more next = (
@@ -79,7 +78,7 @@ module _ (forest : ForestData) (w new : PathReplay) (is : IsPathReplay forest w)
       chosen =
           told-append forest root is.moves (m ∷ [])
           ∙ (ap₂ (λ (xs ys : List IsNameKnown). xs ++ ys) is.chosen (ap (λ (x : Standing). told forest x (m ∷ [])) is.stands ∙ next.tells)
-          ∙ (sym (map-append (told_of forest) w.chosen.items more) ∙ ap (map (told_of forest)) (sym next.notes)));
+          ∙ (sym (map-append (told_of forest) w.chosen more) ∙ ap (map (told_of forest)) (sym next.notes)));
     },
     refl,
   )
@@ -111,13 +110,13 @@ module _ (forest : ForestData) (w new : PathReplay) (is : IsPathReplay forest w)
       moves = edge-move e at from;
       clear = edge-clear e (Reaches q) step tt;
       leads =
-          ap (λ (k : Point). along_edge forest (open_standing (opens_of forest w.open_calls.items) is.name k) e) from
-          ∙ (stays-within forest w.template e w.place q (opens_of forest w.open_calls.items) is.name step
+          ap (λ (k : Point). along_edge forest (open_standing (opens_of forest w.open_calls) is.name k) e) from
+          ∙ (stays-within forest w.template e w.place q (opens_of forest w.open_calls) is.name step
           ∙ ap₂ (λ (os : List ReplayedCall) (k : Point). open_standing (opens_of forest os) is.name k) (sym h.same_calls) (sym (h.stands ∙ end)));
       own = reaches-own forest w.template e w.place q state is.own step ∙ ap Some (sym h.own);
       valid = subst IsValid (sym h.own) (edge-valid e (Reaches q) step);
       tells = edge-noted forest w.template is.name w.point e is.name_is from;
-      notes = h.notes ∙ ap (λ (c : _). w.chosen.items ++ noted w.template w.point c) picked;
+      notes = h.notes ∙ ap (λ (c : _). w.chosen ++ noted w.template w.point c) picked;
     })
 
     entered-call : (n : ℕ) (callee : List ℕ) (to : Point) (c : ℕ) (q : Place) → slice_get (edges_at forest w.template) number ≡ Some (calls n callee to) → w.point ≡ from_of (calls n callee to)
@@ -133,17 +132,17 @@ module _ (forest : ForestData) (w new : PathReplay) (is : IsPathReplay forest w)
       own = is.own ∙ ap Some (sym same ∙ sym h.own);
       valid = subst IsValid (sym h.own) (edge-valid (calls n callee to) (Enters c q) step);
       tells = refl;
-      notes = h.same_chosen ∙ sym (append-nil w.chosen.items);
+      notes = h.same_chosen ∙ sym (append-nil w.chosen);
     })
       where
         call-of : Option (List ℕ) → Point → List Open
-        call-of o k = (let x : Open = record { template = name_or_none o; node = point_node k; back = to } in x ∷ opens_of forest w.open_calls.items)
+        call-of o k = (let x : Open = record { template = name_or_none o; node = point_node k; back = to } in x ∷ opens_of forest w.open_calls)
 
         opens : slice_get (edges_at forest w.template) number ≡ Some (calls n callee to) → w.point ≡ from_of (calls n callee to) → number_named callee forest ≡ Some c → q ≡ w.place
             → step_of forest w.template (calls n callee to) w.place ≡ Enters c q → HasEntered w new c (start_at forest c) to q
-            → call-of (Some is.name) (from_of (calls n callee to)) ≡ opens_of forest new.open_calls.items
+            → call-of (Some is.name) (from_of (calls n callee to)) ≡ opens_of forest new.open_calls
         opens at from known same step h =
-            ap₂ call-of (sym is.name_is) (sym from) ∙ (sym (opens-more forest w.open_calls.items (call_to w to)) ∙ ap (opens_of forest) (sym h.opens))
+            ap₂ call-of (sym is.name_is) (sym from) ∙ (sym (opens-more forest w.open_calls (call_to w to)) ∙ ap (opens_of forest) (sym h.opens))
 
     pub entered : (e : Edge) (to : Point) (c : ℕ) (q : Place) → slice_get (edges_at forest w.template) number ≡ Some e → w.point ≡ from_of e → to ≡ to_of e
         → step_of forest w.template e w.place ≡ Enters c q → HasEntered w new c (start_at forest c) to q → IsBy (along e)
@@ -155,11 +154,11 @@ module _ (forest : ForestData) (w new : PathReplay) (is : IsPathReplay forest w)
         at from end step
 
   -- out of the innermost call
-  pub went-back : (o : ReplayedCall) → o.template < length forest → w.point ≡ finish_point → w.open_calls.items ≡ new.open_calls.items ++ o ∷ [] → new.root ≡ w.root → new.template ≡ o.template
-      → new.point ≡ o.back → new.place ≡ w.place → new.chosen.items ≡ w.chosen.items → IsBy back
+  pub went-back : (o : ReplayedCall) → o.template < length forest → w.point ≡ finish_point → w.open_calls ≡ new.open_calls ++ o ∷ [] → new.root ≡ w.root → new.template ≡ o.template
+      → new.point ≡ o.back → new.place ≡ w.place → new.chosen ≡ w.chosen → IsBy back
   went-back o within end calls_are same_root template point own chosen =
       let n = has_name forest o.template within in
-      let os : opens_of forest w.open_calls.items ≡ open_of forest o ∷ opens_of forest new.open_calls.items = ap (opens_of forest) calls_are ∙ opens-more forest new.open_calls.items o in
+      let os : opens_of forest w.open_calls ≡ open_of forest o ∷ opens_of forest new.open_calls = ap (opens_of forest) calls_are ∙ opens-more forest new.open_calls o in
       one-more back [] (record {
         same_root = same_root;
         name = n.0;
@@ -168,16 +167,16 @@ module _ (forest : ForestData) (w new : PathReplay) (is : IsPathReplay forest w)
         clear = tt;
         leads =
             ap (λ (x : List Open). after_moves forest (open_standing x is.name w.point) back) os
-            ∙ ap₂ (λ (x : Option (List ℕ)) (k : Point). open_standing (opens_of forest new.open_calls.items) (name_or_none x) k) n.1 (sym point);
+            ∙ ap₂ (λ (x : Option (List ℕ)) (k : Point). open_standing (opens_of forest new.open_calls) (name_or_none x) k) n.1 (sym point);
         own = is.own ∙ ap Some (sym own);
         valid = subst IsValid (sym own) is.valid;
         tells = refl;
-        notes = chosen ∙ sym (append-nil w.chosen.items);
+        notes = chosen ∙ sym (append-nil w.chosen);
       })
 
 -- a path that stands at the start of a root
-pub begun : (forest : ForestData) (w : PathReplay) → HasAscendingNames forest → w.root < length forest → w.open_calls.items ≡ [] → w.template ≡ w.root → w.point ≡ start_at forest w.root → w.place ≡ place.Text
-    → w.chosen.items ≡ [] → IsPathReplay forest w
+pub begun : (forest : ForestData) (w : ReplayData) → HasAscendingNames forest → w.root < length forest → w.open_calls ≡ [] → w.template ≡ w.root → w.point ≡ start_at forest w.root → w.place ≡ place.Text
+    → w.chosen ≡ [] → IsReplayOf forest w
 begun forest w up within none template point own chosen =
     let n = has_name forest w.root within in
     record {

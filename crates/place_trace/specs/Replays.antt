@@ -5,6 +5,7 @@ use Rattle.page_io.specs.declared.stop.Memory.{Memory}
 use Rattle.place_flow.specs.Covering.{read_moves}
 use Rattle.place_flow.specs.HtmlCovering.{html_language}
 use Rattle.place_core.specs.page.Html.{start}
+use Rattle.place_core.specs.declared.place.Place.{Place}
 use Rattle.place_core.specs.place.Places.{IsValid}
 use Rattle.place_core.specs.place.StatePlaces.{placed}
 use Rattle.place_trace.specs.declared.chosen.Chosen.{Chosen}
@@ -60,9 +61,21 @@ open_of forest o = record { template = name_or_none (tree_name_at forest o.templ
 abbrev pub opens_of : ForestData → List ReplayedCall → List Open
 opens_of forest os = map (open_of forest) (reverse os)
 
+-- a path that is replayed: its root, its open calls, its template and point, its place there, and what it chose
+pub record ReplayData : Type 0 where
+  pub root : ℕ
+  pub open_calls : List ReplayedCall
+  pub template : ℕ
+  pub point : Point
+  pub place : Place
+  pub chosen : List Chosen
+
+abbrev pub replay_data : PathReplay → ReplayData
+replay_data w = record { root = w.root; open_calls = w.open_calls.items; template = w.template; point = w.point; place = w.place; chosen = w.chosen.items }
+
 -- A path of a root, on which no error of one path stands before where it stands, with these calls open; its own place there is this one, and
 -- this is what it chose.
-pub record IsPathReplay (forest : ForestData) (w : PathReplay) : Type 0 where
+pub record IsReplayOf (forest : ForestData) (w : ReplayData) : Type 0 where
   pub root_name : List ℕ
   pub root_is : tree_name_at forest w.root ≡ Some root_name
   pub name : List ℕ
@@ -70,10 +83,13 @@ pub record IsPathReplay (forest : ForestData) (w : PathReplay) : Type 0 where
   pub moves : List Move
   pub path : IsPath forest (at_root forest root_name) moves
   pub clear : IsClear forest (at_root forest root_name) start.at moves
-  pub stands : reached forest (at_root forest root_name) moves ≡ open_standing (opens_of forest w.open_calls.items) name w.point
+  pub stands : reached forest (at_root forest root_name) moves ≡ open_standing (opens_of forest w.open_calls) name w.point
   pub own : placed (read_moves html_language moves start.at) ≡ Some w.place
   pub valid : IsValid w.place
-  pub chosen : told forest (at_root forest root_name) moves ≡ map (told_of forest) w.chosen.items
+  pub chosen : told forest (at_root forest root_name) moves ≡ map (told_of forest) w.chosen
+
+abbrev pub IsPathReplay : ForestData → PathReplay → Type 0
+IsPathReplay forest w = IsReplayOf forest (replay_data w)
 
 -- A path that is replayed goes on by a move.
 pub record GoesAlong (forest : ForestData) (old new : PathReplay) (m : Move) : Type 0 where

@@ -31,7 +31,7 @@ pub fn met_apart(
     for _step in 0..MOST_STEPS {
         match step_back(alloc, flows, derivations, &mut way)? {
             WayBack::At => {}
-            WayBack::Met(one, other) => return both(flows, derivations, way, one, other),
+            WayBack::Met(one, other) => return both(alloc, flows, derivations, way, one, other),
             WayBack::Nowhere => return Ok(None),
         }
     }
@@ -115,19 +115,20 @@ fn met_by(
 
 // The two paths, where both back traces come to the start of a root.
 fn both(
+    alloc: Global,
     flows: &Flows,
     derivations: &Derivations,
     way: BackTrace,
     one: BackTrace,
     other: BackTrace,
 ) -> Result<Option<MetApart>, Memory> {
-    let one: Option<Candidate> = one.candidate(flows, derivations)?;
-    let other: Option<Candidate> = other.candidate(flows, derivations)?;
+    let one: Option<Candidate> = one.candidate(alloc, flows, derivations)?;
+    let other: Option<Candidate> = other.candidate(alloc, flows, derivations)?;
     match (one, other) {
         (Some(one), Some(other)) => Ok(Some(MetApart {
             one,
             other,
-            common: way.into_steps(),
+            common: way.edges(alloc)?,
         })),
         _ => Ok(None),
     }

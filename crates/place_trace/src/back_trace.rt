@@ -1,4 +1,5 @@
-use crate::candidate::Candidate;
+use crate::back_ways::{BackWay, BackWays};
+use crate::candidate::{Candidate, CandidateStep};
 use crate::derivations::Derivations;
 use crate::origin::member_before;
 use page_io::Memory;
@@ -30,6 +31,19 @@ struct BackCall {
     template: u32,
     entry: Place,
     edge: u32,
+    // where this back trace went into the call
+    end: Option<BackEnd>,
+}
+
+// Where a back trace went into a template through its end: the template, the place in which it is entered, and the member at its end; how
+// many steps the back trace had then, and how many of them were choices.
+#[derive(Clone, Copy, Debug)]
+struct BackEnd {
+    template: u32,
+    entry: Place,
+    member: Member,
+    steps: usize,
+    choices: usize,
 }
 
 // What a step back comes to.
@@ -37,6 +51,10 @@ struct BackCall {
 enum Back {
     // A further point.
     At,
+    // The end of a template, of which the edge of this number is the call.
+    Entered(u32),
+    // The start of a call, through the template of which it went.
+    Left(BackCall),
     // The start of a root.
     Start(u32),
     // Nothing, where the log does not say where a member comes from.
@@ -49,8 +67,10 @@ pub struct BackTrace {
     at: Standing,
     // the calls into which it went back through their ends, the last one last
     calls: Vec<BackCall>,
-    // the edges, the last one of the path first
-    steps: Vec<u32>,
+    // the steps, the last one of the path first
+    steps: Vec<CandidateStep>,
+    // how many of them are choices
+    choices: usize,
 }
 
 impl BackTrace {
@@ -60,14 +80,15 @@ impl BackTrace {
             at,
             calls: Vec::new(alloc),
             steps: Vec::new(alloc),
+            choices: 0,
         }
     }
 
-    /// Another back trace that stands there, with no edges yet. Fails only if allocation fails.
+    /// Another back trace that stands there, with no steps yet. Fails only if allocation fails.
     pub fn fork(&self, alloc: Global) -> Result<BackTrace, Memory> {
         let mut fork = BackTrace::new(alloc, self.at);
         for call in &self.calls {
-            fork.calls.push(*call)?;
+            fork.calls.push(BackCall { end: None, ..*call })?;
         }
         Ok(fork)
     }
@@ -77,9 +98,13 @@ impl BackTrace {
         self.at
     }
 
-    /// The edges that it came along, in the order of the path.
-    pub fn into_steps(self) -> Vec<u32> {
-        in_order(self.steps)
+    /// The numbers of the edges that it came along, in the order of the path. Fails only if allocation fails.
+    pub fn edges(&self, alloc: Global) -> Result<Vec<u32>, Memory> {
+        let mut edges = Vec::new(alloc);
+        for number in (0..self.steps.len()).rev() {
+            edges.push(edge_of(self.steps[number]))?;
+        }
+        Ok(edges)
     }
 
     /// Goes on with a path that bears another member there.
@@ -89,49 +114,64 @@ impl BackTrace {
 
     /// Lets the path take an edge before all that it takes now. Fails only if allocation fails.
     pub fn take(&mut self, edge: u32) -> Result<(), Memory> {
-        self.steps.push(edge)?;
+        self.steps.push(CandidateStep::Along(edge))?;
         Ok(())
     }
 
-    /// Goes back along an edge at whose end the back trace stands, given the place that came along it from its start: into a call through the
-    /// end of its template. Reports whether it went. Fails only if allocation fails.
-    pub fn back_along(&mut self, flows: &Flows, edge: u32, source: Place) -> Result<bool, Memory> {
+    // Goes back along an edge at whose end the back trace stands, given the place that came along it from its start: into a call through
+    // the end of its template. Fails only if allocation fails.
+    fn back_through(&mut self, flows: &Flows, edge: u32, source: Place) -> Result<Back, Memory> {
         let at = self.at;
         if flows.is_call(at.template, edge as usize) {
             return self.back_into(flows, edge, source);
         }
         match flows.ends(at.template, edge as usize) {
             Some((from, _)) => {
+                if is_choice(flows, at.template, edge) {
+                    self.choices = self.choices.saturating_add(1);
+                }
                 let member = member_before(flows, at.template, from, source, at.member);
-                self.back_to(
-                    Standing {
-                        point: from,
-                        member,
-                        ..at
-                    },
-                    edge,
-                )
+                let at = Standing {
+                    point: from,
+                    member,
+                    ..at
+                };
+                self.back_to(at, edge)?;
+                Ok(Back::At)
             }
-            None => Ok(false),
+            None => Ok(Back::Nowhere),
         }
     }
 
+    /// Likewise. Reports whether it went.
+    pub fn back_along(&mut self, flows: &Flows, edge: u32, source: Place) -> Result<bool, Memory> {
+        Ok(went(self.back_through(flows, edge, source)?))
+    }
+
     /// Goes back to the start of an edge.
-    pub fn back_to(&mut self, at: Standing, edge: u32) -> Result<bool, Memory> {
+    pub fn back_to(&mut self, at: Standing, edge: u32) -> Result<(), Memory> {
         self.take(edge)?;
         self.at = at;
-        Ok(true)
+        Ok(())
     }
 
     // Goes back into a call, through the end of the template that it calls.
-    fn back_into(&mut self, flows: &Flows, edge: u32, source: Place) -> Result<bool, Memory> {
+    fn back_into(&mut self, flows: &Flows, edge: u32, source: Place) -> Result<Back, Memory> {
         let at = self.at;
         match transfer(flows, at.template, edge as usize, source) {
             EdgeStep::Enters(template, entry) => {
+                let end = BackEnd {
+                    template,
+                    entry,
+                    member: at.member,
+                    steps: self.steps.len(),
+                    choices: self.choices,
+                };
                 self.calls.push(BackCall {
                     template: at.template,
                     entry: at.entry,
                     edge,
+                    end: Some(end),
                 })?;
                 self.at = Standing {
                     template,
@@ -139,14 +179,14 @@ impl BackTrace {
                     point: Point::Finish,
                     member: at.member,
                 };
-                Ok(true)
+                Ok(Back::Entered(edge))
             }
-            _ => Ok(false),
+            _ => Ok(Back::Nowhere),
         }
     }
 
     // Goes back out of a template at its start, to the start of the edge that calls it.
-    fn back_out(&mut self, flows: &Flows, call: BackCall) -> Result<bool, Memory> {
+    fn back_out(&mut self, flows: &Flows, call: BackCall) -> Result<Back, Memory> {
         match flows.ends(call.template, call.edge as usize) {
             Some((from, _)) => {
                 let at = Standing {
@@ -155,35 +195,34 @@ impl BackTrace {
                     point: from,
                     member: self.at.member,
                 };
-                self.back_to(at, call.edge)
+                self.back_to(at, call.edge)?;
+                Ok(Back::Left(call))
             }
-            None => Ok(false),
+            None => Ok(Back::Nowhere),
         }
     }
 
     /// Goes back as a derivation came that gave the point its place. Reports whether it went, and not to the start of a root. Fails only if
     /// allocation fails.
     pub fn back_by(&mut self, flows: &Flows, derivation: Derivation) -> Result<bool, Memory> {
-        match self.back(flows, derivation)? {
-            Back::At => Ok(true),
-            _ => Ok(false),
-        }
+        Ok(went(self.back(flows, derivation)?))
     }
 
     // Goes back as a derivation came. A template into which the back trace went through its end is left by the call through which it went.
     fn back(&mut self, flows: &Flows, derivation: Derivation) -> Result<Back, Memory> {
         if let DerivedFrom::Along(edge) = derivation.from {
-            return Ok(back_where(self.back_along(flows, edge, derivation.source)?));
+            return self.back_through(flows, edge, derivation.source);
         }
         match (self.calls.pop(), derivation.from) {
-            (Some(call), _) => Ok(back_where(self.back_out(flows, call)?)),
+            (Some(call), _) => self.back_out(flows, call),
             (None, DerivedFrom::Called(template, entry, edge)) => {
                 let call = BackCall {
                     template,
                     entry,
                     edge,
+                    end: None,
                 };
-                Ok(back_where(self.back_out(flows, call)?))
+                self.back_out(flows, call)
             }
             _ => Ok(Back::Start(derivation.template)),
         }
@@ -198,16 +237,65 @@ impl BackTrace {
         }
     }
 
-    /// The path, from the start of a root on: at each point the back trace goes back as the oldest derivation came that gave the point what the
-    /// back trace comes from. None where the log has none. Fails if allocation fails, or on a path of more than 2^26 steps.
+    // At the end of a template that is called, goes to the start of the call where the way back through the template is known.
+    fn skip(&mut self, flows: &Flows, ways: &BackWays, edge: u32) -> Result<(), Memory> {
+        let at = self.at;
+        let Some(member) = ways.before(at.template, at.entry, at.member) else {
+            return Ok(());
+        };
+        let Some(call) = self.calls.pop() else {
+            return Ok(());
+        };
+        if let Some((from, _)) = flows.ends(call.template, edge as usize) {
+            self.steps.push(CandidateStep::Through(edge))?;
+            self.at = Standing {
+                template: call.template,
+                entry: call.entry,
+                point: from,
+                member,
+            };
+        }
+        Ok(())
+    }
+
+    // At the start of a call through the template of which the back trace went: where it chose nothing there, the way is known from now on,
+    // and is one step.
+    fn keep(&mut self, ways: &mut BackWays, call: BackCall) -> Result<(), Memory> {
+        let Some(end) = call.end else {
+            return Ok(());
+        };
+        if end.choices != self.choices {
+            return Ok(());
+        }
+        ways.add(
+            end.template,
+            BackWay {
+                entry: end.entry,
+                end: end.member,
+                start: self.at.member,
+            },
+        )?;
+        self.steps.truncate(end.steps);
+        self.steps.push(CandidateStep::Through(call.edge))?;
+        Ok(())
+    }
+
+    /// The path, from the start of a root on: at each point the back trace goes back as the oldest derivation came that gave the point what
+    /// the back trace comes from. Through a template in which it chooses nothing it goes once for each place in which that is entered and
+    /// each member at its end. None where the log has no path. Fails if allocation fails, or where it goes more than 2^26 steps, as on a
+    /// path of so many choices.
     pub fn candidate(
         mut self,
+        alloc: Global,
         flows: &Flows,
         derivations: &Derivations,
     ) -> Result<Option<Candidate>, Memory> {
+        let mut ways = BackWays::new(alloc, flows.forest().count())?;
         for _step in 0..MOST_STEPS {
             match self.step_back(flows, derivations)? {
                 Back::At => {}
+                Back::Entered(edge) => self.skip(flows, &ways, edge)?,
+                Back::Left(call) => self.keep(&mut ways, call)?,
                 Back::Start(root) => return Ok(Some(candidate_of(root, self.steps))),
                 Back::Nowhere => return Ok(None),
             }
@@ -216,20 +304,30 @@ impl BackTrace {
     }
 }
 
-fn back_where(went: bool) -> Back {
-    if went { Back::At } else { Back::Nowhere }
-}
-
-// The path of a root with these steps, of which the last one is the first here.
-fn candidate_of(root: u32, steps: Vec<u32>) -> Candidate {
-    Candidate {
-        root,
-        steps: in_order(steps),
+fn edge_of(step: CandidateStep) -> u32 {
+    match step {
+        CandidateStep::Along(edge) | CandidateStep::Through(edge) => edge,
     }
 }
 
-fn in_order(steps: Vec<u32>) -> Vec<u32> {
+fn is_choice(flows: &Flows, template: u32, edge: u32) -> bool {
+    match flows.choice(template, edge as usize) {
+        Some(_) => true,
+        None => false,
+    }
+}
+
+// Whether a step back went, and not to the start of a root.
+fn went(back: Back) -> bool {
+    match back {
+        Back::Start(_) | Back::Nowhere => false,
+        _ => true,
+    }
+}
+
+// The path of a root with these steps, of which the last one is the first here.
+fn candidate_of(root: u32, steps: Vec<CandidateStep>) -> Candidate {
     let mut steps = steps;
     steps.as_mut_slice().reverse();
-    steps
+    Candidate { root, steps }
 }

@@ -1,11 +1,19 @@
+/// A step of a path, by the number of its edge in the template in which the path then stands.
+#[derive(Clone, Copy, Debug)]
+pub enum CandidateStep {
+    /// Along the edge. That of a call enters its template. At a template's end the path goes back by itself, which is no step.
+    Along(u32),
+    /// Along the edge of a call, through the template that is called, in which nothing is chosen, and back.
+    Through(u32),
+}
+
 /// A path of a root that may show an error. Nothing is promised of it: whoever shows it replays it first.
 #[derive(Debug, Drop)]
 pub struct Candidate {
     /// The number of the root's template.
     pub root: u32,
-    /// The numbers of the edges that the path takes from the root's start on, in order, each in the template in which the path then
-    /// stands. The edge of a call enters its template. At a template's end the path goes back by itself, which is no step.
-    pub steps: Vec<u32>,
+    /// The steps that the path takes from the root's start on, in order.
+    pub steps: Vec<CandidateStep>,
 }
 
 /// Two paths that may have met apart: at one point both were in the beginning of a URL, and it spelled different things on the two, or they

@@ -1,7 +1,10 @@
-ghost use Rattle.std.specs.Prelude.{IfOk, IfSome};
+ghost use Rattle.std.specs.Prelude.{IfOk, IfSome, OnOk};
 ghost use Rattle.place_trace.specs.Replays.{IsPathReplay};
+ghost use Rattle.place_trace.specs.WaysThrough.{AreWaysThrough};
 
-use crate::PathReplay;
+use crate::candidate::CandidateStep;
+use crate::replay::PathReplay;
+use crate::ways_through::WaysThrough;
 use page_io::Memory;
 use place_flow::Flows;
 use std::alloc::Global;
@@ -17,21 +20,42 @@ fn return_from_ends(flows: &Flows, replay: &mut PathReplay)
     }
 }
 
-/// The path of a root along edges, as a candidate has them, if that is one. Fails only if allocation fails.
+// Takes a step. Reports whether it went.
+fn take(
+    alloc: Global,
+    flows: &Flows,
+    ways: &mut WaysThrough,
+    replay: &mut PathReplay,
+    step: CandidateStep,
+) -> Result<bool, Memory>
+    ensures ways { AreWaysThrough flows.now ways.old
+        → OnOk result (AreWaysThrough flows.now ways.new) }
+    ensures path { AreWaysThrough flows.now ways.old → IsPathReplay flows.now replay.old
+        → OnOk result (IsPathReplay flows.now replay.new) }
+{
+    match step {
+        CandidateStep::Along(number) => replay.go_along(flows, number as usize),
+        CandidateStep::Through(number) => replay.go_through(alloc, flows, ways, number as usize),
+    }
+}
+
+/// The path of a root by steps, as a candidate has them, if that is one. A template in which nothing is chosen is gone through once for
+/// each place in which it is entered, however often the path is to go through it. Fails only if allocation fails.
 pub fn replayed(
     alloc: Global,
     flows: &Flows,
     root: u32,
-    steps: &[u32],
+    steps: &[CandidateStep],
 ) -> Result<Option<PathReplay>, Memory>
     ensures { IfOk result (λ replay. IfSome replay (IsPathReplay flows.now)) }
 {
     let Some(mut replay) = PathReplay::new(alloc, flows, root) else {
         return Ok(None);
     };
+    let mut ways = WaysThrough::new(alloc, flows.forest().count())?;
     for step in steps {
         return_from_ends(flows, &mut replay);
-        if !replay.go_along(flows, *step as usize)? {
+        if !take(alloc, flows, &mut ways, &mut replay, *step)? {
             return Ok(None);
         }
     }

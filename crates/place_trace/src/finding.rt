@@ -63,7 +63,7 @@ pub fn candidate_of_end(
         point: Point::Finish,
         member: Member::Whole,
     };
-    BackTrace::new(alloc, at).candidate(flows, &derivations)
+    BackTrace::new(alloc, at).candidate(alloc, flows, &derivations)
 }
 
 // Paths to the start of an edge that is refused there.
@@ -138,17 +138,24 @@ fn add_at(
     candidates: &mut Vec<Candidate>,
     at: Standing,
 ) -> Result<(), Memory> {
-    add(flows, derivations, candidates, BackTrace::new(alloc, at))
+    add(
+        alloc,
+        flows,
+        derivations,
+        candidates,
+        BackTrace::new(alloc, at),
+    )
 }
 
 // Adds the path of a back trace, where there is one.
 fn add(
+    alloc: Global,
     flows: &Flows,
     derivations: &Derivations,
     candidates: &mut Vec<Candidate>,
     back_trace: BackTrace,
 ) -> Result<(), Memory> {
-    if let Some(candidate) = back_trace.candidate(flows, derivations)? {
+    if let Some(candidate) = back_trace.candidate(alloc, flows, derivations)? {
         candidates.push(candidate)?;
     }
     Ok(())
@@ -167,10 +174,10 @@ fn of_clash(
     let mut candidates = Vec::new(alloc);
     let (one, other) = clash_shown(before, derived);
     let met = met_at(alloc, flows, conflict, to, one)?;
-    add(flows, derivations, &mut candidates, met)?;
+    add(alloc, flows, derivations, &mut candidates, met)?;
     let mut along = met_at(alloc, flows, conflict, to, other)?;
     if along.back_along(flows, conflict.edge, conflict.source)? {
-        add(flows, derivations, &mut candidates, along)?;
+        add(alloc, flows, derivations, &mut candidates, along)?;
     }
     Ok(Candidates::AtConflict(candidates))
 }

@@ -3,6 +3,7 @@
 
 mod apart_trace;
 mod back_trace;
+mod back_ways;
 mod calls;
 mod candidate;
 mod candidate_replay;
@@ -15,8 +16,9 @@ mod origin;
 mod points;
 mod replay;
 mod showing;
+mod ways_through;
 
-pub use candidate::{Candidate, Candidates, MetApart};
+pub use candidate::{Candidate, CandidateStep, Candidates, MetApart};
 pub use candidate_replay::replayed;
 pub use chosen::Chosen;
 pub use finding::{candidate_of_end, candidates_of_conflict};

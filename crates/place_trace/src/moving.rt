@@ -1,7 +1,8 @@
-ghost use Rattle.std.specs.Prelude.{◌≡◌, ◌++◌, OnOk, Some, slice_get};
+ghost use Rattle.std.specs.Prelude.{◌≡◌, ◌<◌, ◌++◌, OnOk, Some, length, slice_get};
 ghost use Rattle.place_flow.specs.Flows.{choice_of, edges_at};
 ghost use Rattle.place_trace.specs.Moving.{HasEntered, HasArrived, noted};
-ghost use Rattle.place_trace.specs.Replays.{IsPathReplay, WentBy};
+ghost use Rattle.place_trace.specs.Replays.{IsPathReplay, WentBy, replay_data};
+ghost use Rattle.place_trace.specs.WaysThrough.{AreWaysThrough};
 ghost use Rattle.tpl_paths.specs.Edges.{from_of, to_of};
 ghost use Rattle.tpl_tree.specs.Forests.{HasAscendingNames};
 ghost use Rattle.tpl_paths.specs.Edges as spec;
@@ -9,9 +10,11 @@ ghost use Rattle.tpl_paths.specs.Edges as spec;
 use crate::chosen::Chosen;
 use crate::points::node_of;
 use crate::replay::{PathReplay, ReplayedCall};
+use crate::ways_through::WaysThrough;
 use page_io::Memory;
 use place_core::Place;
 use place_flow::{EdgeStep, Flows, transfer};
+use std::alloc::Global;
 use tpl_paths::{Point, Way};
 
 // Notes what is chosen at a point of a template.
@@ -43,7 +46,8 @@ fn arrive(
     place: Place,
     choice: Option<Way>,
 ) -> Result<(), Memory>
-    ensures { OnOk result (HasArrived replay.old replay.new to place choice) }
+    ensures { OnOk result
+        (HasArrived (replay_data replay.old) (replay_data replay.new) to place choice) }
 {
     note(&mut replay.chosen, replay.template, replay.point, choice)?;
     replay.point = to;
@@ -59,7 +63,8 @@ fn enter(
     to: Point,
     place: Place,
 ) -> Result<(), Memory>
-    ensures { OnOk result (HasEntered replay.old replay.new callee start to place) }
+    ensures { OnOk result
+        (HasEntered (replay_data replay.old) (replay_data replay.new) callee start to place) }
 {
     let call = ReplayedCall {
         template: replay.template,
@@ -100,5 +105,38 @@ pub(crate) fn go_on(
             Ok(true)
         }
         EdgeStep::Refused => Ok(false),
+    }
+}
+
+// Goes on behind the call of a template, by its edge, which begins where the path stands.
+pub(crate) fn go_behind(
+    replay: &mut PathReplay,
+    alloc: Global,
+    flows: &Flows,
+    ways: &mut WaysThrough,
+    number: usize,
+    to: Point,
+) -> Result<bool, Memory>
+    ensures ways { AreWaysThrough flows.now ways.old
+        → OnOk result (AreWaysThrough flows.now ways.new) }
+    ensures path { HasAscendingNames flows.now → replay.old.template < length flows.now
+        → (e : spec.Edge)
+        → slice_get (edges_at flows.now replay.old.template) number ≡ Some e
+        → replay.old.point ≡ from_of e → to ≡ to_of e
+        → AreWaysThrough flows.now ways.old → IsPathReplay flows.now replay.old
+        → OnOk result (IsPathReplay flows.now replay.new) }
+{
+    match transfer(flows, replay.template, number, replay.place) {
+        EdgeStep::Enters(callee, place) => {
+            match ways.through(alloc, flows, callee, place)? {
+                Some(exit) => {
+                    replay.point = to;
+                    replay.place = exit;
+                    Ok(true)
+                }
+                None => Ok(false),
+            }
+        }
+        _ => Ok(false),
     }
 }

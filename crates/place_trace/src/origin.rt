@@ -5,8 +5,9 @@ use place_flow::Flows;
 use tpl_paths::Point;
 use tpl_tree::NodeKind;
 
-/// The member before an edge that a member after it comes from, by the point from which the edge leads and the place there. Of an edge
-/// that neither writes nor fills it is the member itself, and so where the place after the edge has not this member.
+/// The member before an edge that a member after it comes from, by the point from which the edge leads and the place there. Of an edge that
+/// neither writes nor fills it is the member itself, and so where the place after the edge has not this member; and before `Whole`, which
+/// each path has, it is `Whole`.
 pub fn member_before(
     flows: &Flows,
     template: u32,
@@ -14,6 +15,9 @@ pub fn member_before(
     source: Place,
     member: Member,
 ) -> Member {
+    if member == Member::Whole {
+        return member;
+    }
     match kind_at(flows.forest(), template, from) {
         Some(NodeKind::Text(text)) => before_text(source, text.as_str(), member),
         Some(NodeKind::Action(_)) => before_hole(source, member),

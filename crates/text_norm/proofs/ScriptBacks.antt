@@ -1,11 +1,10 @@
 -- How many bytes are pending back in the element `script`.
-use Rattle.std.proofs.Common.{◌≡◌, ℕ, ◌+◌, ◌-◌, ◌≤◌, List, [], ◌∷◌, ◌++◌, length, refl, sym, ap, ◌∙◌, arith}
+use Rattle.std.proofs.Common.{◌≡◌, ℕ, ◌+◌, ◌-◌, ◌≤◌, List, ◌++◌, length, refl, arith}
 use Rattle.std.proofs.lemmas.List.{length-append}
 use Rattle.js_lexer.specs.States.{ScriptState}
 use Rattle.js_lexer.specs.Written.{waiting_slash}
 use Rattle.place_core.specs.page.Contents.{pending_bytes}
 use Rattle.html_scan.specs.ScanViews.{pending_length, script_pending_at}
-use Rattle.html_scan.specs.Slices.{pending}
 use Rattle.html_scan.specs.declared.script_pending.ScriptPending.{ScriptPending}
 use Rattle.html_scan.specs.declared.script_pending.ScriptPending.TheVariants as back
 use Rattle.text_norm.specs.Kept.{held_in_line, script_kept}

@@ -1,12 +1,12 @@
 -- A `<` leads out of no token: where a script is in code behind one, it was in code before it.
-use Rattle.std.proofs.Common.{◌≡◌, ℕ, ◌&&◌, Bool, true, false, List, [], ◌∷◌, ◌++◌, inl, inr, refl, sym, ap, ◌∙◌, subst, true≢false}
+use Rattle.std.proofs.Common.{◌≡◌, ℕ, ◌&&◌, Bool, true, false, List, [], ◌∷◌, ◌++◌, inl, inr, refl, sym, ap, ◌∙◌, true≢false}
 use Rattle.js_lexer.specs.Alike.{ScriptsAlike}
 use Rattle.js_lexer.specs.Classes.{class_of}
 use Rattle.js_lexer.specs.Elements.{is_code_or_comment, script_may_end}
 use Rattle.js_lexer.specs.Feeding.{feed_script, points, tells_white_apart}
 use Rattle.js_lexer.specs.Holes.{as_page}
 use Rattle.js_lexer.specs.States.{At, BlockComment, Code, InRegexp, InString, InTemplate, LineComment, Minuses, Number, Pluses, ScriptEscape, ScriptPoint, ScriptState, Slash, TooDeep, Trail, Word, point}
-use Rattle.js_lexer.specs.Steps.{is_taken_in_script, is_taken_in_string, next_block, next_regexp, next_script_string, next_template, script_next}
+use Rattle.js_lexer.specs.Steps.{is_taken_in_script, is_taken_in_string, next_regexp, next_script_string, next_template, script_next}
 use Rattle.js_lexer.specs.Trails.{is_empty}
 use Rattle.js_lexer.specs.WhiteSpace.{classed, classed_as, released}
 use Rattle.js_lexer.specs.declared.class.ScriptClass.TheVariants as class

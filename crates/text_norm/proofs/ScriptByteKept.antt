@@ -1,19 +1,19 @@
 -- A byte that a script reads, by what is written for it and where what is pending begins then.
-use Rattle.std.proofs.Common.{◌≡◌, ℕ, ◌+◌, ◌-◌, ◌<◌, ◌≤◌, ◌&&◌, ◌||◌, nat_lt, not, if◌then◌else◌, Bool, true, false, codes, List, [], ◌∷◌, ◌++◌, ◌⊎◌, inl, inr, length, get_or, true≢false, refl, sym, ap, ap₂, ◌∙◌, subst, arith}
+use Rattle.std.proofs.Common.{◌≡◌, ℕ, ◌+◌, ◌-◌, ◌<◌, ◌≤◌, ◌&&◌, ◌||◌, nat_lt, not, if◌then◌else◌, Bool, true, false, codes, List, [], ◌∷◌, ◌++◌, ◌⊎◌, inl, inr, length, get_or, true≢false, refl, sym, ap, ◌∙◌, subst, arith}
 use Rattle.std.proofs.lemmas.Bool.{cases_lt}
-use Rattle.std.proofs.lemmas.List.{append-nil, append_assoc, length-append}
+use Rattle.std.proofs.lemmas.List.{append-nil, append_assoc}
 use Rattle.std.proofs.lemmas.Str.{IsCharBoundary-after_ascii, IsCharBoundary-before_ascii}
 use Rattle.std.specs.Str.{IsCharBoundary, IsUtf8}
 use Rattle.js_lexer.specs.Classes.{class_of}
 use Rattle.js_lexer.specs.Feeding.{feed_class, feed_script}
-use Rattle.js_lexer.specs.States.{At, Code, Word, Number, Pluses, Minuses, Slash, LineComment, BlockComment, InString, InRegexp, InTemplate, TooDeep, ScriptState, Trail}
+use Rattle.js_lexer.specs.States.{At, Code, Word, Slash, LineComment, BlockComment, ScriptState, Trail}
 use Rattle.js_lexer.specs.Trails.{is_empty}
 use Rattle.js_lexer.specs.Written.{blank_of, is_block, is_line, is_outside, is_slash, script_written, waiting_slash}
 use Rattle.js_lexer.specs.declared.class.ScriptClass.{ScriptClass}
 use Rattle.js_lexer.specs.declared.class.ScriptClass.TheVariants as class
 use Rattle.js_lexer.specs.declared.sense.Sense.{Sense}
-use Rattle.js_step.specs.KeptWords.{kept_at, kept_state}
-use Rattle.js_step.specs.ScriptScans.{ScriptScan, script_at_in, script_in_sense, script_one_sense, script_scan_next, script_shared}
+use Rattle.js_step.specs.KeptWords.{kept_at}
+use Rattle.js_step.specs.ScriptScans.{ScriptScan, script_at_in, script_one_sense, script_scan_next, script_shared}
 use Rattle.html_scan.proofs.PendingNames.{pending_grows, pending_nothing}
 use Rattle.html_scan.specs.Scans.{script_fed_byte}
 use Rattle.html_scan.specs.Slices.{pending}

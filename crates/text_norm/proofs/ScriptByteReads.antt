@@ -1,21 +1,21 @@
 -- What a byte does to what waits in a script in its element: where a comment begins, within one, and at its end.
-use Rattle.std.proofs.Common.{◌≡◌, ℕ, ◌<◌, ◌≤◌, ◌&&◌, ◌||◌, nat_lt, if◌then◌else◌, Bool, true, false, codes, encode_utf8, List, [], ◌∷◌, ◌++◌, ◌⊎◌, inl, inr, length, get_or, true≢false, refl, sym, ap, ap₂, ◌∙◌, subst, arith}
+use Rattle.std.proofs.Common.{◌≡◌, ℕ, ◌<◌, ◌≤◌, ◌&&◌, ◌||◌, if◌then◌else◌, Bool, true, false, codes, encode_utf8, List, [], ◌∷◌, ◌++◌, ◌⊎◌, inl, inr, length, get_or, true≢false, refl, sym, ap, ap₂, ◌∙◌, subst, arith}
 use Rattle.std.proofs.lemmas.Bool.{cases_lt}
-use Rattle.std.proofs.lemmas.List.{append-nil, append_assoc, length-append}
+use Rattle.std.proofs.lemmas.List.{append-nil}
 use Rattle.js_lexer.proofs.CommentsStand.{EndsLine, LineFeed, CarriageReturn, LineSeparator, ParagraphSeparator, LineOutcome, LineWord, StaysInLine, line-outcome}
-use Rattle.js_lexer.proofs.ScriptKinds.{PointKind, Elsewhere, AtSlash, InComment, Deep, Beyond, comes, is_common, by-class, kind, kind_of, next-comes}
+use Rattle.js_lexer.proofs.ScriptKinds.{PointKind, Elsewhere, AtSlash, InComment, Deep, Beyond, comes, kind, kind_of, next-comes}
 use Rattle.js_lexer.proofs.ScriptReleases.{AsLetters, AsLineEnds, AsSpaces, HoldsAll, HoldsByte, Release, points-last, releases}
 use Rattle.js_lexer.specs.Classes.{class_of}
 use Rattle.js_lexer.specs.Feeding.{feed_script, held_at, point_of, points, read_at, tells_white_apart}
-use Rattle.js_lexer.specs.States.{At, Code, Word, Number, Pluses, Minuses, Slash, LineComment, BlockComment, InString, InRegexp, InTemplate, TooDeep, ScriptPoint, ScriptState, Trail, point}
+use Rattle.js_lexer.specs.States.{At, Code, Slash, LineComment, BlockComment, TooDeep, ScriptPoint, ScriptState, Trail, point}
 use Rattle.js_lexer.specs.Steps.{script_next}
 use Rattle.js_lexer.specs.Trails.{is_empty}
 use Rattle.js_lexer.specs.WhiteSpace.{ClassedByte, classed, classed_as, held_after, released}
-use Rattle.js_lexer.specs.Written.{blank_of, is_block, is_line, is_outside, is_slash, only_line_end, only_line_ends, script_written, waiting_slash}
+use Rattle.js_lexer.specs.Written.{is_block, is_line, is_outside, is_slash, only_line_end, only_line_ends, script_written, waiting_slash}
 use Rattle.js_lexer.specs.declared.class.ScriptClass.{ScriptClass}
 use Rattle.js_lexer.specs.declared.class.ScriptClass.TheVariants as class
 use Rattle.js_lexer.specs.declared.sense.Sense.{Sense}
-use Rattle.text_norm.specs.Kept.{held_in_line, is_script_comment, line_end_length_of, script_waits}
+use Rattle.text_norm.specs.Kept.{is_script_comment, line_end_length_of, script_waits}
 use Rattle.text_norm.proofs.ScriptByteWrites.{class-high, opening-byte}
 
 abbrev never : {A : Type 0} → false ≡ true → A

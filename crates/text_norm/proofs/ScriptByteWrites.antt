@@ -4,7 +4,7 @@ use Rattle.std.proofs.lemmas.Bool.Decides.{nat_tests}
 use Rattle.std.specs.Prelude.{nat_le, nat_lt, suc, zero, length}
 use Rattle.js_lexer.specs.Classes.{class_of, is_line_terminator, is_space}
 use Rattle.js_lexer.specs.Feeding.{feed_script, held_at, point_of, points, read_at, tells_white_apart}
-use Rattle.js_lexer.specs.States.{At, Code, Word, Number, Pluses, Minuses, Slash, LineComment, BlockComment, InString, InRegexp, InTemplate, TooDeep, ScriptEscape, NoEscape, AfterBackslash, AfterX, AfterX3, AfterCarriageReturn, ScriptPoint, ScriptState, Trail, point}
+use Rattle.js_lexer.specs.States.{At, Code, Word, Number, Pluses, Minuses, Slash, LineComment, BlockComment, InString, InRegexp, InTemplate, TooDeep, ScriptEscape, NoEscape, ScriptPoint, ScriptState, Trail, point}
 use Rattle.js_lexer.specs.Steps.{brace_closes, is_number, is_taken_in_script, is_taken_in_string, is_word, literal_ends, literal_opens, max_literals, next_code, next_minuses, next_pluses, next_regexp, next_script_number, next_script_string, next_script_word, next_slash, next_template, script_next, sense_if_odd}
 use Rattle.js_lexer.specs.Trails.{is_empty}
 use Rattle.js_lexer.specs.WhiteSpace.{ClassedByte, PastAscii, IsSpace, IsSeparator, BeginsWhite, IsOther, classed, classed_as, held_after, held_alone, held_by, held_past_ascii, past_ascii, released, released_alone, released_by, released_past_ascii}

@@ -1,14 +1,10 @@
 -- Where the code of scripts in their element is called, the text is in one.
 use Rattle.std.proofs.Common.{◌≡◌, ◌∙◌, Bool, true, false, true≢false, refl, sym, ap}
-use Rattle.css_step.specs.StyleScans.{StyleScan}
-use Rattle.place_core.specs.page.States.{Pending, Nothing, PendingLess, LessAtCut, PendingName, PendingBang, PendingBangDash, PendingOpening}
-use Rattle.place_core.specs.declared.css.Css.TheVariants as css
-use Rattle.place_core.specs.declared.element.Element.{Element}
+use Rattle.place_core.specs.page.States.{Pending, Nothing, PendingLess, PendingName}
 use Rattle.place_core.specs.declared.element.Element.TheVariants as element
-use Rattle.place_core.specs.declared.place.Place.{Place}
 use Rattle.place_core.specs.declared.place.Place.TheVariants as place
-use Rattle.html_scan.specs.Scans.{Scan, At, AfterLess, AfterLessSolidus, InDeclaration, InTagName, InAttributeName, InCommentEnd, InContentEnd, InStyleElement, InScriptElement, InUrl, InStyle, InScript, BeforeType, InType}
-use Rattle.text_norm.specs.Kept.{change_of, comment_change, content_change, content_ending, end_tag_change, ending_of, is_in_script, is_style_comment, less_change, may_end_change, pending_ending, style_change, style_ending, style_place_comment}
+use Rattle.html_scan.specs.Scans.{Scan, At, AfterLess, AfterLessSolidus, InDeclaration, InCommentEnd, InContentEnd, InStyleElement, InScriptElement}
+use Rattle.text_norm.specs.Kept.{change_of, comment_change, content_change, end_tag_change, ending_of, is_in_script, is_style_comment, less_change, may_end_change, pending_ending, style_change, style_ending, style_place_comment}
 use Rattle.text_norm.specs.declared.pending.Change.{Change}
 use Rattle.text_norm.specs.declared.pending.Change.TheVariants as change
 use Rattle.text_norm.specs.declared.pending.Ending.{Ending}

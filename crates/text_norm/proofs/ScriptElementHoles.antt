@@ -1,5 +1,5 @@
 -- A hole in a script in its element: bytes that are plain in the script, and none of which is a `<`, lead the page's reading where the hole leads the path.
-use Rattle.std.proofs.Common.{◌≡◌, ◌≢◌, ℕ, ◌==◌, ◌||◌, Bool, true, false, codes, List, [], ◌∷◌, if◌then◌else◌, refl, sym, ap, ap₂, ◌∙◌, subst, true≢false}
+use Rattle.std.proofs.Common.{◌≡◌, ℕ, ◌==◌, ◌||◌, Bool, true, false, codes, List, [], ◌∷◌, if◌then◌else◌, refl, sym, ap, ap₂, ◌∙◌, subst, true≢false}
 use Rattle.std.specs.List.{list_any}
 use Rattle.js_lexer.specs.Alike.{ScriptsAlike}
 use Rattle.js_lexer.specs.Elements.{script_may_end}

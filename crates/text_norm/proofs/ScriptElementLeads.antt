@@ -1,6 +1,6 @@
 -- What a chain promises in the element of a script leads the page's reading of bytes alone beside its reading with marks, and tells what fills the mark. Both
 -- readings have the same pending, and are in the same state but for the trail: no value in code is empty, and in a token nothing is pending.
-use Rattle.std.proofs.Common.{◌≡◌, ℕ, Bool, true, false, List, [], ◌∷◌, inl, inr, refl, sym, ap, ap₂, ◌∙◌, subst, true≢false}
+use Rattle.std.proofs.Common.{◌≡◌, ℕ, Bool, true, false, List, [], inl, inr, refl, sym, ap, ◌∙◌, subst, true≢false}
 use Rattle.js_lexer.specs.Alike.{IsSame}
 use Rattle.js_lexer.specs.BackLaws.{in_code}
 use Rattle.js_lexer.specs.Feeding.{script_reading}

@@ -1,5 +1,5 @@
 -- What a sanitizer promises of its bytes in the element of a script is what a hole there has to show.
-use Rattle.std.proofs.Common.{◌≡◌, ℕ, ◌==◌, ◌||◌, Bool, true, false, codes, List, [], ◌∷◌, Some, refl, sym, ap, ◌∙◌, subst, true≢false}
+use Rattle.std.proofs.Common.{◌≡◌, ℕ, ◌==◌, Bool, true, false, codes, List, [], ◌∷◌, Some, refl, sym, ap, ◌∙◌, subst, true≢false}
 use Rattle.std.proofs.lemmas.Bool.{eqb-true}
 use Rattle.html_step.specs.Holes.{only}
 use Rattle.js_lexer.proofs.ValueBytes.{begins_value, value-begins}

@@ -1,11 +1,8 @@
 -- Where a page stands for a path before a hole in the element of a script, it stands for it behind the hole.
-use Rattle.std.proofs.Common.{◌≡◌, ℕ, ◌&&◌, not, Bool, true, false, codes, List, [], ◌∷◌, ◌⊎◌, inl, inr, Some, if◌then◌else◌, refl, sym, ap, ◌∙◌, subst, true≢false}
-use Rattle.std.specs.Prelude.{⊤}
+use Rattle.std.proofs.Common.{◌≡◌, ℕ, not, Bool, true, false, codes, List, [], ◌⊎◌, inl, inr, if◌then◌else◌, refl, sym, ap, ◌∙◌, subst, true≢false}
 use Rattle.js_lexer.specs.Alike.{ScriptsAlike}
 use Rattle.js_lexer.specs.BackLaws.{in_code}
 use Rattle.js_lexer.specs.Elements.{script_may_end}
-use Rattle.js_lexer.specs.Events.{ScriptEvent}
-use Rattle.js_lexer.specs.Feeding.{feed_script}
 use Rattle.js_lexer.specs.Holes.{script_after_hole}
 use Rattle.js_lexer.specs.PageScripts.{PageScript, ScriptStandsAlike, ScriptStands, ScriptStandsAt, ScriptStandsAtSlash, page_script, read_in_page}
 use Rattle.js_lexer.specs.States.{AfterBackslash, AfterCarriageReturn, AfterX, AfterX3, At, BlockComment, Code, InRegexp, InString, InTemplate, LineComment, Minuses, NoEscape, Number, Pluses, ScriptEscape, ScriptState, Slash, TooDeep, Trail, Word}
@@ -17,7 +14,7 @@ use Rattle.place_core.specs.page.Events.{InsideScript, LexEvent}
 use Rattle.place_core.specs.page.Paths.{at_hole, mark_in}
 use Rattle.place_core.specs.page.Plain.{IsPlain}
 use Rattle.place_core.specs.page.Shape.{marked}
-use Rattle.place_core.specs.page.States.{Config, LessAtCut, Nothing, Pending, PendingBang, PendingBangDash, PendingLess, PendingName, PendingOpening, config}
+use Rattle.place_core.specs.page.States.{Config, LessAtCut, Nothing, Pending, PendingBang, PendingBangDash, PendingLess, PendingName, PendingOpening}
 use Rattle.place_core.specs.page.Tags.{OfScript, ValueState, languages}
 use Rattle.place_core.specs.place.ScriptParts.{may_begin_text_at}
 use Rattle.place_core.specs.declared.element.Element.{Element}

@@ -3,14 +3,13 @@ use Rattle.std.proofs.Common.{◌≡◌, ℕ, ◌+◌, ◌&&◌, ◌||◌, ◌==
 use Rattle.std.specs.Prelude.{⊤}
 use Rattle.std.specs.Char.{to_ascii_lowercase}
 use Rattle.js_lexer.specs.Elements.{script_may_end}
-use Rattle.js_lexer.specs.Feeding.{feed_script}
 use Rattle.js_lexer.specs.Refusals.{Cause}
 use Rattle.js_lexer.specs.States.{ScriptState}
 use Rattle.js_lexer.specs.Written.{is_hidden_in_script, script_hides, script_written, script_written_at_cut}
 use Rattle.js_step.specs.ScriptScans.{ScriptScan, script_scan_cut_error, script_scan_error, script_shared}
 use Rattle.place_core.specs.page.Classes.{Class, LessThan, class_of}
 use Rattle.place_core.specs.page.Contents.{ScriptStep, Reads, EndsContent, pending_bytes, script_step, step_loose}
-use Rattle.place_core.specs.page.States.{Pending, Nothing, PendingLess, LessAtCut, PendingName, PendingBang, PendingBangDash, PendingOpening}
+use Rattle.place_core.specs.page.States.{Pending, Nothing, PendingLess}
 use Rattle.place_core.specs.place.Errors.{PathCause, first_cause, read_error, script_cause_back, script_content_cut_error, script_content_error, script_read, step_asks, step_error}
 use Rattle.place_core.specs.declared.element.Element.{Element}
 use Rattle.html_scan.specs.Scans.{all_element_scripts, script_fed_byte, script_scan_may_end}

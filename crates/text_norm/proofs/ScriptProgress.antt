@@ -1,7 +1,6 @@
 -- In the element `script`: what its script has read, what is pending behind that, and what has not been written.
-use Rattle.std.proofs.Common.{◌≡◌, ℕ, ◌+◌, ◌-◌, ◌<◌, ◌≤◌, ◌&&◌, ◌||◌, not, Bool, true, false, codes, List, [], ◌∷◌, ◌++◌, length, get_or, if◌then◌else◌, refl, sym, ap, ap₂, ◌∙◌, subst, true≢false, arith}
-use Rattle.std.proofs.lemmas.List.{append-nil, append_assoc, length-append}
-use Rattle.std.specs.Str.{IsCharBoundary}
+use Rattle.std.proofs.Common.{◌≡◌, ℕ, ◌-◌, ◌<◌, ◌≤◌, ◌&&◌, ◌||◌, not, Bool, true, false, List, [], ◌∷◌, ◌++◌, length, if◌then◌else◌, refl, sym, ap, ap₂, ◌∙◌, true≢false, arith}
+use Rattle.std.proofs.lemmas.List.{append-nil, append_assoc}
 use Rattle.js_lexer.specs.Elements.{is_code_or_comment, script_may_end}
 use Rattle.js_lexer.specs.States.{At as Lexeme, Code, Slash, LineComment, BlockComment, ScriptState}
 use Rattle.js_lexer.specs.Trails.{is_empty}
@@ -18,11 +17,11 @@ use Rattle.place_core.specs.declared.place.Place.TheVariants as place
 use Rattle.html_scan.specs.Scans.{Scan, At, InScriptElement, script_feeding, script_scan_may_end}
 use Rattle.html_scan.specs.Slices.{pending}
 use Rattle.text_norm.specs.InScripts.{back_of_scan, script_of_scan}
-use Rattle.text_norm.specs.Kept.{IsProgressKept, IsScriptKept, bears, hides, held_in_line, is_in_script, is_script_comment, less_kept, reference_of, scan_of, script_kept, script_waits}
+use Rattle.text_norm.specs.Kept.{IsProgressKept, IsScriptKept, bears, hides, held_in_line, is_in_script, is_script_comment, less_kept, reference_of, scan_of, script_waits}
 use Rattle.text_norm.specs.Scanned.{scan_cut_out, scripts_writing}
 use Rattle.text_norm.specs.Written.{script_bytes_out, script_cut_out, script_end_state, script_read_out}
 use Rattle.text_norm.specs.declared.pending.WriteProgress.{WriteProgress}
-use Rattle.text_norm.proofs.Slices.{IsParted, first_byte, parted}
+use Rattle.text_norm.proofs.Slices.{IsParted, parted}
 
 -- At a place nothing waits.
 start-waits : (j : Js) → script_waits (script_shared (script_scan_start j)) ≡ []

@@ -1,23 +1,23 @@
 -- What is written in a script depends on no more than all its paths share: it is the same on a path and by its scan state, and by a scan state and one above it.
-use Rattle.std.proofs.Common.{◌≡◌, ℕ, ◌==◌, ◌&&◌, Bool, true, false, List, [], ◌∷◌, ◌++◌, ◌⊎◌, inl, inr, Option, Some, None, option_map, if◌then◌else◌, not, true≢false, refl, sym, ap, ap₂, ◌∙◌, arith}
+use Rattle.std.proofs.Common.{◌≡◌, ℕ, ◌==◌, ◌&&◌, Bool, true, false, List, [], ◌∷◌, ◌++◌, Some, None, if◌then◌else◌, not, true≢false, refl, sym, ap, ap₂, ◌∙◌}
 use Rattle.std.proofs.lemmas.Bool.{eqb-true}
 use Rattle.js_lexer.specs.Classes.{class_of}
 use Rattle.js_lexer.specs.Elements.{script_may_end}
 use Rattle.js_lexer.specs.Feeding.{feed_script, read_at, tells_white_apart}
 use Rattle.js_lexer.specs.Refusals.{script_refuses}
-use Rattle.js_lexer.specs.States.{At, Code, Word, Number, Pluses, Minuses, Slash, LineComment, BlockComment, InString, InRegexp, InTemplate, TooDeep, Trail, ScriptState}
+use Rattle.js_lexer.specs.States.{At, Code, Word, Number, Pluses, Minuses, Slash, LineComment, BlockComment, InString, InRegexp, Trail, ScriptState}
 use Rattle.js_lexer.specs.Trails.{is_empty}
 use Rattle.js_lexer.specs.WhiteSpace.{classed, classed_as, released}
-use Rattle.js_lexer.specs.Written.{blank_of, is_block, is_line, is_slash, is_outside, is_taken_at, script_hides, script_written, script_written_at_cut, waiting_slash, waits_behind, written_between}
+use Rattle.js_lexer.specs.Written.{script_hides, script_written, script_written_at_cut, written_between}
 use Rattle.js_lexer.specs.declared.class.ScriptClass.TheVariants as class
 use Rattle.js_lexer.specs.declared.sense.Sense.{Sense}
 use Rattle.js_lexer.specs.declared.sense.Sense.TheVariants as sense
 use Rattle.js_step.proofs.KeptAnswers.{kept-words-suffice}
 use Rattle.js_step.proofs.ScriptGrowth.{scripts-grow}
 use Rattle.js_step.proofs.ScriptPaths.{is-before, script-paths-are-scanned}
-use Rattle.js_step.specs.KeptWords.{kept_at, kept_scan, kept_state}
+use Rattle.js_step.specs.KeptWords.{kept_at, kept_scan}
 use Rattle.js_step.specs.ScriptPaths.{is_script_before, is_script_within, script_scanned, script_scanned_if}
-use Rattle.js_step.specs.ScriptScanLaws.{EndsBefore, IsBeforeText, before_text, ends_code, ends_less, ends_hash, ends_word, ends_number, ends_pluses, ends_minuses, ends_minus, ends_two_minuses, ends_regexp_slash, ends_slash, ends_line, ends_block, ends_string, ends_regexp, script_alone, script_alone_before, script_before, script_begun_at}
+use Rattle.js_step.specs.ScriptScanLaws.{IsBeforeText, before_text, ends_code, ends_less, ends_hash, ends_word, ends_number, ends_pluses, ends_minuses, ends_minus, ends_two_minuses, ends_regexp_slash, ends_slash, ends_line, ends_block, ends_string, ends_regexp, script_alone, script_alone_before, script_begun_at}
 use Rattle.js_step.specs.ScriptScanOrder.{ScriptScanBelow}
 use Rattle.js_step.specs.ScriptScans.{ScriptScan, script_at_in, script_in_sense, script_one_sense, script_scan_error, script_scan_next, script_sense_at, script_shared}
 use Rattle.place_core.proofs.Semilattices.{none_some, one_value}

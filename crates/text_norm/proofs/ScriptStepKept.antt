@@ -1,23 +1,21 @@
 -- A byte of a script in its element, by what it does there: bytes are read and written, or are pending, or the end tag ends the script.
 use Rattle.std.proofs.Common.{◌≡◌, ℕ, ◌+◌, ◌-◌, ◌<◌, ◌≤◌, ◌&&◌, not, if◌then◌else◌, Bool, true, false, codes, List, [], ◌∷◌, ◌++◌, length, get_or, Option, None, IfSome, true≢false, refl, sym, ap, ap₂, ◌∙◌, subst, arith}
-use Rattle.std.proofs.lemmas.List.{append-nil, append_assoc, length-append}
+use Rattle.std.proofs.lemmas.List.{append-nil, append_assoc}
 use Rattle.std.specs.Char.{is_ascii_alphabetic}
 use Rattle.std.specs.List.{list_all}
-use Rattle.std.specs.Prelude.{⊤}
-use Rattle.std.specs.Str.{IsCharBoundary}
 use Rattle.js_lexer.specs.Written.{is_hidden_in_script, script_written_at_cut}
 use Rattle.js_step.specs.ScriptScans.{ScriptScan, script_scan_start, script_shared}
 use Rattle.place_core.proofs.ScriptSteps.{MayBePending, ends_name, step-ends, step-keeps, token-goes-on}
 use Rattle.place_core.specs.page.Classes.{Class, White, Solidus, GreaterThan, class_of}
 use Rattle.place_core.specs.page.Contents.{ScriptStep, Reads, EndsContent, pending_bytes, script_step}
 use Rattle.place_core.specs.page.References.{Reference, Closed, as_it_stands}
-use Rattle.place_core.specs.page.States.{Pending, Nothing, PendingLess, PendingName}
+use Rattle.place_core.specs.page.States.{Pending, PendingName}
 use Rattle.place_core.specs.page.Tags.{feed_bytes}
 use Rattle.place_core.specs.declared.element.Element.TheVariants as element
 use Rattle.place_core.specs.declared.js.Js.{Js}
 use Rattle.place_core.specs.declared.js.Js.TheVariants as js
 use Rattle.place_core.specs.declared.place.Place.TheVariants as place
-use Rattle.html_scan.proofs.PendingNames.{pending_grows, pending_nothing}
+use Rattle.html_scan.proofs.PendingNames.{pending_grows}
 use Rattle.html_scan.specs.ScanViews.{pending_from, pending_length, script_pending_at}
 use Rattle.html_scan.specs.Scans.{Scan, At, InScriptElement, scan_by_step, scan_next, script_element_next, script_feeding, script_scan_may_end}
 use Rattle.html_scan.specs.Slices.{pending}
@@ -32,7 +30,7 @@ use Rattle.text_norm.specs.declared.pending.WriteProgress.{WriteProgress}
 use Rattle.text_norm.specs.declared.reference.Opened.{Opened}
 use Rattle.text_norm.proofs.ScriptBacks.{back-length}
 use Rattle.text_norm.proofs.Slices.{first_byte, parted, pending_joins}
-use Rattle.text_norm.proofs.Steps.{byte_at, next_of, out_of, open_of}
+use Rattle.text_norm.proofs.Steps.{byte_at, next_of}
 
 abbrev never : {A : Type 0} → false ≡ true → A
 never e = absurd (true≢false (sym e))

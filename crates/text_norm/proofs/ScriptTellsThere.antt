@@ -1,5 +1,5 @@
 -- Where a path is at a place in the element of a script, its page has told what the path has: with what is pending, and in a comment by a space.
-use Rattle.std.proofs.Common.{◌≡◌, ℕ, not, Bool, true, false, codes, All, List, [], ◌∷◌, refl, sym, ap, ◌∙◌}
+use Rattle.std.proofs.Common.{◌≡◌, ℕ, not, true, false, codes, All, List, refl, ap, ◌∙◌}
 use Rattle.std.proofs.lemmas.List.Elements.{All-head}
 use Rattle.js_lexer.specs.BackLaws.{in_code}
 use Rattle.js_lexer.specs.Holes.{script_has_mark}

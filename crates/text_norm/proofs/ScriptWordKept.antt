@@ -1,17 +1,17 @@
 -- A word of a token is written, and the script stands behind it with nothing that waits; and what is written before the end tag of a script.
-use Rattle.std.proofs.Common.{◌≡◌, ℕ, ◌+◌, ◌-◌, ◌<◌, ◌≤◌, ◌==◌, ◌&&◌, ◌||◌, nat_lt, not, if◌then◌else◌, Bool, true, false, bytes_eq, codes, List, [], ◌∷◌, ◌++◌, ◌⊎◌, inl, inr, length, get_or, true≢false, eqb-true, refl, sym, ap, ap₂, ◌∙◌, subst, arith}
+use Rattle.std.proofs.Common.{◌≡◌, ℕ, ◌+◌, ◌-◌, ◌<◌, ◌≤◌, ◌==◌, ◌&&◌, ◌||◌, nat_lt, if◌then◌else◌, Bool, true, false, bytes_eq, codes, List, [], ◌∷◌, ◌++◌, ◌⊎◌, inl, inr, length, get_or, true≢false, eqb-true, refl, sym, ap, ap₂, ◌∙◌, subst, arith}
 use Rattle.std.proofs.lemmas.Bool.{cases_lt}
 use Rattle.std.proofs.lemmas.Bool.Decides.{nat_tests}
-use Rattle.std.proofs.lemmas.List.{append-nil, append_assoc, length-append}
+use Rattle.std.proofs.lemmas.List.{append-nil, append_assoc}
 use Rattle.std.proofs.lemmas.Slice.Eq.{bytes_eq-Decides}
 use Rattle.std.proofs.lemmas.Str.{IsCharBoundary-after_ascii, IsCharBoundary-before_ascii}
 use Rattle.std.proofs.lemmas.Str.Ascii.{lowercase_is}
 use Rattle.std.specs.Char.{to_ascii_lowercase}
 use Rattle.std.specs.Str.{IsCharBoundary, IsUtf8}
-use Rattle.js_lexer.proofs.InnerWords.{IsHiddenWord, hidden-word}
+use Rattle.js_lexer.proofs.InnerWords.{hidden-word}
 use Rattle.js_lexer.specs.Elements.{in_lower_case}
 use Rattle.js_lexer.specs.Feeding.{feed_script, held_at, tells_white_apart}
-use Rattle.js_lexer.specs.States.{At, Code, Slash, LineComment, BlockComment, ScriptState}
+use Rattle.js_lexer.specs.States.{At, Code, Slash, LineComment, BlockComment}
 use Rattle.js_lexer.specs.Trails.{is_empty}
 use Rattle.js_lexer.specs.WhiteSpace.{held_after}
 use Rattle.js_lexer.specs.Written.{blank_of, escaped_less, is_block, is_hidden_in_script, is_line, is_outside, is_taken_at, script_hides, script_written_at_cut, waiting_slash}
@@ -21,7 +21,7 @@ use Rattle.html_scan.proofs.PendingNames.{pending_grows, pending_nothing}
 use Rattle.html_scan.specs.Scans.{script_fed_byte, script_feeding, script_scan_may_end}
 use Rattle.html_scan.specs.Slices.{pending}
 use Rattle.place_core.specs.page.Tags.{feed_bytes}
-use Rattle.text_norm.specs.Kept.{IsScriptKept, ScriptEnds, ScriptReadsOn, held_in_line, is_script_comment, script_waits}
+use Rattle.text_norm.specs.Kept.{IsScriptKept, ScriptEnds, ScriptReadsOn, is_script_comment, script_waits}
 use Rattle.text_norm.proofs.ScriptByteKept.{comment-waits, no-line-waits, shared-waits}
 use Rattle.text_norm.proofs.ScriptByteReads.{last-append, last_or, line-none-held}
 use Rattle.text_norm.proofs.ScriptByteWrites.{none-waits, solidus-by}

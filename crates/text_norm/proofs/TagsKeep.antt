@@ -1,5 +1,5 @@
 -- What is written of a tag leads the page's reading where the path's leads.
-use Rattle.std.proofs.Common.{◌≡◌, ℕ, Bool, false, List, [], ◌∷◌, Some, None, inl, refl, ap, ◌∙◌, true≢false}
+use Rattle.std.proofs.Common.{◌≡◌, ℕ, Bool, false, List, [], ◌∷◌, Some, None, inl, refl, ap, true≢false}
 use Rattle.css_lexer.specs.Alike.{outside, the_same}
 use Rattle.css_lexer.specs.States.{style_start}
 use Rattle.js_lexer.specs.Holes.{script_after_cut}

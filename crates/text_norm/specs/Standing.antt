@@ -19,7 +19,7 @@ use Rattle.place_core.specs.page.Contents.{BeginsWord, Reads, in_word, is_name_o
 use Rattle.place_core.specs.page.Events.{LexEvent, InsideScript, event_text_bytes, told_in_style}
 use Rattle.place_core.specs.page.Html.{read_over}
 use Rattle.place_core.specs.page.References.{Form, Reference, Closed, Open, as_it_stands, settled}
-use Rattle.place_core.specs.page.States.{Page, LexState, Text, TagOpen, EndTagOpen, DeclarationOpen, InComment, BogusComment, InDoctype, TagName, WholeTagName, BeforeAttributeName, AttributeName, WholeAttributeName, AfterAttributeName, BeforeAttributeValue, AttributeValue, AfterAttributeValue, SelfClosingStartTag, Content, Characters, Bytes, InLanguage, Pending, Nothing, PendingLess, LessAtCut, PendingName, PendingBang, PendingBangDash, PendingOpening, InContent, Config, config}
+use Rattle.place_core.specs.page.States.{Page, LexState, Text, TagOpen, EndTagOpen, DeclarationOpen, InComment, BogusComment, InDoctype, TagName, WholeTagName, BeforeAttributeName, AttributeName, WholeAttributeName, AfterAttributeName, BeforeAttributeValue, AttributeValue, AfterAttributeValue, SelfClosingStartTag, Content, Characters, Bytes, InLanguage, Pending, Nothing, PendingLess, LessAtCut, PendingName, PendingBangDash, PendingOpening, InContent, Config, config}
 use Rattle.place_core.specs.page.Tags.{Tag, tag_named, element_on, Value, ValueOf, Deciding, ValueLanguage, ValueState, OfStyle, OfScript, Quoting, with_bytes, emitted_bytes, fed_state, emits_fed}
 use Rattle.place_core.specs.page.Words.{kind_of}
 use Rattle.place_core.specs.declared.element.Element.{Element}

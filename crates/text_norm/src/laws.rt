@@ -6,8 +6,8 @@ ghost use Rattle.text_norm.specs.Laws.{KeepsShape, WrittenOnPaths};
 ghost use Rattle.text_norm.specs.StandsLaws.{PagesReadAsPaths, StandsAtStart, StandsSomewhere, StandsWhereNothingIsPending, EmitsTheSame};
 ghost use Rattle.text_norm.specs.ValueLaws.{ValueLanguageLaws};
 
-/// The language of the values that are read so far has the laws of one: where a page's state of it is alike to the path's, it emits the same
-/// of each byte that the path does not refuse, of the end of the value and before a hole, and stays alike. A theorem; the call does
+/// The language of the values that are read so far has the laws of one: where a page's state of it is alike to the path's, it emits the
+/// same of each byte that the path does not refuse, of the end of the value and before a hole, and stays alike. A theorem; the call does
 /// nothing at run time.
 pub fn value_language_has_laws()
     ensures { ValueLanguageLaws ValueState languages }
@@ -65,8 +65,8 @@ pub fn pages_read_as_paths()
 {}
 
 /// A page of pieces that are accepted from text to text, read as bytes alone, without knowing where values begin and end, ends in text and
-/// emits what its path emits, but in the place of each mark the events of its value, and of a URL whose scheme data may choose none, `http`,
-/// `https` or `mailto`. A theorem; the call does nothing at run time.
+/// emits what its path emits, but in the place of each mark the events of its value, and of a URL whose scheme data may choose none,
+/// `http`, `https` or `mailto`. A theorem; the call does nothing at run time.
 pub fn pages_fill_paths()
     ensures { PagesFillPaths }
 {}

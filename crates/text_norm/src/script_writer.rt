@@ -1,11 +1,10 @@
 // What a page gets for a text in the element `script`: the text as it stands, but that comments are left out, and that the `<` of a
 // word with which HTML would read something in a token is written otherwise.
 ghost use Rattle.std.specs.Prelude.{◌≡◌, ◌++◌, ◌∷◌, ◌+◌, ◌-◌, ◌<◌, ◌≤◌, ◌^◌, ◌&&◌, not, ℕ, List, [], IfOk, OnOk, codes, get_or, length, true, false};
-ghost use Rattle.js_lexer.specs.Trails.{is_empty};
 ghost use Rattle.js_lexer.specs.Written.{blank_of, escaped_less, is_hidden_in_script, is_taken_at, script_hides, script_written, script_written_at_cut, waiting_slash};
 ghost use Rattle.js_lexer.specs.Written as written;
 ghost use Rattle.js_step.specs.ScriptScans.{script_shared};
-ghost use Rattle.js_step.specs.ScriptScanViews.{script_lexeme_at, script_lines_at, script_literals_at, script_scan_at};
+ghost use Rattle.js_step.specs.ScriptScanViews.{script_lexeme_at, script_lines_at, script_scan_at};
 ghost use Rattle.place_core.specs.page.Classes.{class_of as class_of_byte};
 ghost use Rattle.place_core.specs.page.Contents.{pending_bytes};
 ghost use Rattle.place_core.specs.page.Tags.{feed_bytes};
@@ -24,7 +23,7 @@ use html_scan::{
     Scan, ScriptPending, ScriptStep, after_script_byte, begun_script, behind_pending, class_of,
     may_end, script_step,
 };
-use js_step::{ScriptAt, ScriptEscape, ScriptHeld, ScriptLiterals, ScriptPart, ScriptScan};
+use js_step::{ScriptAt, ScriptEscape, ScriptHeld, ScriptPart, ScriptScan, is_outside};
 use page_io::{Memory, Text};
 use place_core::Place;
 
@@ -217,14 +216,6 @@ fn script_of(scan: Scan) -> (ScriptScan, ScriptPending)
     }
 }
 
-// Whether no template literal is open.
-#[tactic(auto, using(js_step::proofs::OpenLiterals::literal_rules))]
-fn is_outside(literals: ScriptLiterals) -> bool
-    ensures { result ≡ is_empty (script_literals_at literals) }
-{
-    literals.free >= 16
-}
-
 /// Whether a script is in a comment that is no part of a template literal.
 pub fn in_comment(script: ScriptScan) -> bool
     ensures { result ≡ is_script_comment (script_shared (script_scan_at script)) }
@@ -368,7 +359,8 @@ fn write_unwritten(
     script: ScriptScan,
     done: usize,
 ) -> Result<(), Memory>
-    requires kept { IsScriptKept text.now (length text.now) (script_shared (script_scan_at script)) done }
+    requires kept { IsScriptKept text.now (length text.now)
+        (script_shared (script_scan_at script)) done }
     ensures { (kept : IsScriptKept text.now (length text.now)
         (script_shared (script_scan_at script)) done)
         → OnOk result (out.new ≡ out.old ++ kept.free) }

@@ -80,8 +80,8 @@ abbrev pub WhereClosed : Reference → Type 0 → Type 0
 WhereClosed Closed fact = fact
 WhereClosed _ fact = ⊥
 
--- In an element, whether the style stands right behind a `<`; in a script no value begins with a `/`. A hole without bytes may stand between that and the bytes at hand: they are read
--- alike before and after it, but a `/` would be part of the end tag.
+-- In an element, whether the style stands right behind a `<`; in a script no value begins with a `/`. A hole without bytes may stand between
+-- that and the bytes at hand: they are read alike before and after it, but a `/` would be part of the end tag.
 abbrev pub is_behind_less : ValueState → Bool
 is_behind_less (OfStyle (Out AfterLessThan)) = true
 is_behind_less v = false
@@ -105,9 +105,10 @@ IsPlainContent Nothing Bytes e bytes d = (d.at ≡ InContent e Bytes Nothing) ×
 IsPlainContent Nothing (InLanguage v) e bytes d = IsPlainInContent v e bytes d
 IsPlainContent _ y e bytes d = ⊥
 
--- Bytes that read from this state, with nothing told, to `d` are plain there. In text, title, textarea and data block they are bytes of that very
--- text; in a value and in a style of that value and that style; in a tag they are one whole name. In the other states none are plain, nor are bytes at whose beginning
--- or end the lexer holds something back, even where it could come to nothing (`</` before an `x`, in a title), nor a whole `<!--` in a data block.
+-- Bytes that read from this state, with nothing told, to `d` are plain there. In text, title, textarea and data block they are bytes of that
+-- very text; in a value, in a style and in a script of that value, that style and that script; in a tag they are one whole name. In the other
+-- states none are plain, nor are bytes at whose beginning or end the lexer holds something back, even where it could come to nothing (`</`
+-- before an `x`, in a title), nor a whole `<!--` in a data block.
 abbrev pub IsPlainFrom : LexState ValueState → List ℕ → Config ValueState → Type 0
 IsPlainFrom (Text r) bytes d = WhereClosed r ((d.at ≡ Text Closed) × IsTrue (only_text d.emitted))
 IsPlainFrom (InContent e y h) bytes d = IsPlainContent h y e bytes d
@@ -119,8 +120,9 @@ IsPlainFrom (BeforeAttributeValue tag k) bytes d = IsPlainBefore k tag bytes d
 IsPlainFrom (AttributeValue q tag v r) bytes d = WhereClosed r (IsPlainValue v q tag bytes d)
 IsPlainFrom _ bytes d = ⊥
 
--- Where a hole begins, what is pending back in an element that a language reads is told first, and then what the language still holds back, as in a
--- value. The other states need no such telling: where they hold something back no hole is plain.
+-- Where a hole begins in an element that a language reads, the language reads first what is pending, and then tells what it still holds back, as
+-- in a value; but in a token of a script what is pending stays so. The other states need no such telling: where they, or a token of a script,
+-- hold something back no hole is plain.
 abbrev pub settled_state : {B : Type 0} → ValueLanguage B → LexState B → LexState B
 settled_state x (AttributeValue q tag v r) = AttributeValue q tag (settled_value x v) r
 settled_state x (InContent e y h) = settled_content x e y h

@@ -1,4 +1,4 @@
-use Rattle.std.proofs.Common.{◌≡◌, true, false, sym, ◌∙◌}
+use Rattle.std.proofs.Common.{◌≡◌, true, sym, ◌∙◌}
 use Rattle.js_step.specs.ScriptScans.{script_shared}
 use Rattle.js_step.specs.ScriptScanViews.{script_scan_at}
 use Rattle.text_norm.specs.Kept.{is_script_comment}

@@ -1,8 +1,8 @@
-use Rattle.std.proofs.Common.{◌≡◌, ℕ, ◌+◌, ◌-◌, ◌≤◌, List, [], ◌∷◌, ◌++◌, length, get_or, None, refl, sym, ap, ◌∙◌, arith}
+use Rattle.std.proofs.Common.{ℕ, ◌+◌, ◌-◌, ◌≤◌, List, [], ◌∷◌, ◌++◌, length, get_or, None, refl, sym, ap, ◌∙◌, arith}
 use Rattle.std.proofs.lemmas.List.{length-append}
 use Rattle.js_step.specs.ScriptScanViews.{script_scan_at}
 use Rattle.place_core.specs.page.Classes.{class_of}
-use Rattle.place_core.specs.page.Contents.{EndsContent, Reads, ScriptStep, pending_bytes}
+use Rattle.place_core.specs.page.Contents.{EndsContent, Reads, pending_bytes}
 use Rattle.place_core.specs.page.States.{Nothing, PendingLess}
 use Rattle.html_scan.specs.ScanViews.{script_pending_at}
 use Rattle.html_scan.specs.Slices.{pending}

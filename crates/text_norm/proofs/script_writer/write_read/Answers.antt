@@ -1,4 +1,4 @@
-use Rattle.std.proofs.Common.{◌≡◌, ℕ, ◌<◌, ◌≤◌, ◌&&◌, not, false, List, length, get_or, refl, sym, ap, ◌∙◌, arith}
+use Rattle.std.proofs.Common.{◌≡◌, ℕ, ◌<◌, ◌&&◌, not, false, List, get_or, refl, sym, ap, ◌∙◌, arith}
 use Rattle.js_lexer.specs.Written.{is_hidden_in_script}
 use Rattle.js_step.specs.ScriptScanViews.{script_scan_at}
 use Rattle.html_scan.specs.Scans.{script_fed_byte, script_scan_may_end}

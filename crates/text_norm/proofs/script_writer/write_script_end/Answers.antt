@@ -6,7 +6,6 @@ use Rattle.js_lexer.specs.Written.{script_hides, script_written_at_cut}
 use Rattle.js_step.specs.ScriptScans.{ScriptScan, script_shared}
 use Rattle.js_step.specs.ScriptScanViews.{script_scan_at}
 use Rattle.place_core.specs.page.Contents.{pending_bytes}
-use Rattle.place_core.specs.page.References.{Reference}
 use Rattle.place_core.specs.page.States.{Pending}
 use Rattle.place_core.specs.page.Tags.{feed_bytes}
 use Rattle.html_scan.specs.Scans.{script_feeding, script_scan_may_end}

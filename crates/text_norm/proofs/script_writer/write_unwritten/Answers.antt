@@ -1,4 +1,4 @@
-use Rattle.std.proofs.Common.{◌≡◌, ℕ, ◌++◌, ◌≤◌, List, length, OnOk, sym, ap, ◌∙◌, subst, arith}
+use Rattle.std.proofs.Common.{◌≡◌, ℕ, ◌++◌, ◌≤◌, List, length, OnOk, sym, ◌∙◌, subst, arith}
 use Rattle.js_step.specs.ScriptScans.{script_shared}
 use Rattle.js_step.specs.ScriptScanViews.{script_scan_at}
 use Rattle.text_norm.proofs.ScriptProgress.{unwritten}

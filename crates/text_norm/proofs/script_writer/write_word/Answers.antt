@@ -1,4 +1,4 @@
-use Rattle.std.proofs.Common.{◌≡◌, sym, ◌∙◌, ap, List, ℕ, ◌++◌}
+use Rattle.std.proofs.Common.{◌∙◌, ap, List, ℕ, ◌++◌}
 use Rattle.js_step.specs.ScriptScanViews.{script_scan_at}
 use Rattle.text_norm.proofs.ScriptWordKept.{word-at, word-written}
 use Rattle.text_norm.proofs.script_writer.write_word.Goals as goal
