@@ -2,6 +2,7 @@ pub mod Digits
 pub mod Heads
 pub mod Lists
 pub mod Excluding
+pub mod Staying
 pub mod Examples
 pub mod Pushes
 pub mod Fixed

@@ -19,11 +19,13 @@ is_close_option element =
 abbrev pub lists_close : List ℕ → Bool
 lists_close value = list_any is_close_option (list_elements value)
 
--- a client that sent this method reads no body of the reply (RFC 9110, sections 9.3.2 and 9.3.6)
-abbrev pub has_no_body : List ℕ → Bool
-has_no_body method = bytes_eq method (codes "HEAD") || bytes_eq method (codes "CONNECT")
+-- the connection ends with the reply to this method: a client that sent HEAD reads no body of it
+-- (RFC 9110, section 9.3.2), and one that sent CONNECT may take what follows it for the tunnel
+abbrev pub is_last_method : List ℕ → Bool
+is_last_method method = bytes_eq method (codes "HEAD") || bytes_eq method (codes "CONNECT")
 
--- HTTP/1.0 has no reply behind which the connection stays open, whatever its fields say
+-- HTTP/1.0 may keep a connection open by `keep-alive` (RFC 9112, section 9.3): this server never
+-- does, whatever the fields say
 abbrev pub ends_connection : ℕ → List ℕ → List (List ℕ × List ℕ) → Bool
 ends_connection minor method fields =
-    minor == 0 || has_no_body method || list_any lists_close (values (codes "connection") fields)
+    minor == 0 || is_last_method method || list_any lists_close (values (codes "connection") fields)

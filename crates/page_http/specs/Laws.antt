@@ -1,5 +1,5 @@
--- The answers of reading a request exclude each other.
-use Rattle.std.specs.Prelude.{◌≡◌, ℕ, ◌⊎◌, List}
+-- The answers of reading a request exclude each other, and stay where more bytes come.
+use Rattle.std.specs.Prelude.{◌≡◌, ℕ, ◌⊎◌, List, ◌++◌}
 use Rattle.httparse.specs.Grammar.{RequestHead, HasNoRequest, NeverHasRequest, EndsInTarget}
 use Rattle.httparse.specs.Spans.{RequestExceeds}
 use Rattle.page_http.specs.Requests.{front, max_fields, IsWhole, IsMore, Refuses}
@@ -25,3 +25,12 @@ pub record HasOneAnswer (bytes : List ℕ) : Type 0 where
 
 abbrev pub AnswersExclude : Type 0
 AnswersExclude = (bytes : List ℕ) → HasOneAnswer bytes
+
+-- a request and a refusal stay, whatever bytes follow
+pub record StaysAnswered (bytes more : List ℕ) : Type 0 where
+  pub whole : (r : Request) (n : ℕ) (h : RequestHead) → IsWhole bytes r n h
+      → IsWhole (bytes ++ more) r n h
+  pub refused : (status : ℕ) → Refuses bytes status → Refuses (bytes ++ more) status
+
+abbrev pub AnswersStay : Type 0
+AnswersStay = (bytes more : List ℕ) → StaysAnswered bytes more

@@ -1,5 +1,5 @@
 -- The replies with pages, and with the number of the set.
-use Rattle.std.specs.Prelude.{ℕ, true, List, [], ◌∷◌, ◌++◌, codes}
+use Rattle.std.specs.Prelude.{◌≡◌, ℕ, true, IsTrue, List, [], ◌∷◌, ◌++◌, codes}
 use Rattle.std.specs.Fmt.{decimal}
 use Rattle.page_datum.specs.Execution.{Ending, done, no_root, faulted, Execution}
 use Rattle.page_datum.specs.Kinds.{fault_kind}
@@ -29,6 +29,10 @@ ending_reply (faulted fault) page number = fault_reply fault number
 -- the reply to a request for a page, by its execution
 abbrev pub page_reply : Execution → ℕ → Reply
 page_reply e number = ending_reply e.ending e.bytes number
+
+-- the reply is a page
+abbrev pub IsPage : Reply → Type 0
+IsPage reply = (reply.status ≡ 200) × IsTrue reply.html
 
 -- the number of the set
 abbrev pub number_reply : ℕ → Reply

@@ -5,7 +5,8 @@ use Rattle.page_http.specs.declared.reply.Allow.{Allow}
 use Rattle.page_http.specs.declared.reply.Allow.TheVariants as allow
 use Rattle.page_http.specs.declared.reply.Reply.{Reply}
 
--- the phrases of the statuses that a reply may have, those of 413 and 422 in the words of RFC 7231
+-- the phrases of the statuses that a reply may have: that of 413 is the one of RFC 7231, section
+-- 6.5.11, and that of 422 the one of RFC 4918, section 11.2
 abbrev pub phrases : List (ℕ × List ℕ)
 phrases =
     (200, codes "OK")

@@ -63,7 +63,8 @@ pub record IsCutOff (bytes : List ℕ) (h : RequestHead) (n : ℕ) : Type 0 wher
   pub length_is : body_length_of h ≡ body.Bytes n
   pub less : length bytes < length (print_request h) + n
 
--- no head stands there, and more bytes may make one
+-- no head stands there, and more bytes may make one, or a target has begun and not ended, even one
+-- that is no UTF-8
 pub record IsPart (bytes : List ℕ) : Type 0 where
   pub none : HasNoRequest (front bytes)
   pub may : MayBecomeRequest (front bytes)

@@ -1,5 +1,5 @@
 ghost use Rattle.std.specs.Prelude.{◌≡◌};
-ghost use Rattle.page_http.specs.Answers.{AnswersRequest, IsAnswerSendable};
+ghost use Rattle.page_http.specs.Answers.{AnswersRequest, AnswersSoundly, IsAnswerSendable};
 
 use crate::ask::{Ask, read_ask_by};
 use crate::page::{number_reply, page_reply};
@@ -19,7 +19,8 @@ pub enum Answer {
 }
 
 /// What a request is answered by a set of this number: its refusal, the page that it asks for, the
-/// number, or a reload. Fails only if memory runs out.
+/// number, or a reload. A page's execution is one of the set's files, and a page is sound. Fails
+/// only if memory runs out.
 pub fn reply_to<P: Pages>(
     alloc: Global,
     routes: &Routes,
@@ -28,6 +29,8 @@ pub fn reply_to<P: Pages>(
     number: u64,
 ) -> Result<Answer, Memory>
     ensures answers { AnswersRequest (P.execution pages.now) request.now number result }
+    ensures sound { AnswersSoundly (P.execution pages.now) (P.is_execution (P.made_of pages.now))
+        (P.is_sound (P.made_of pages.now)) request.now number result }
     ensures sendable { IsAnswerSendable result }
 {
     match read_ask_by(alloc, routes, request, number) {

@@ -16,12 +16,13 @@ pub fn closes(buf: &[u8], headers: &[HeaderSpan], len: usize, minor: u8, method:
     ensures { result ≡ spec.ends_connection minor method.now
         (map (header_bytes buf.now) headers.now) }
 {
-    minor == 0 || has_no_body(method) || asks_close(buf, headers, len)
+    minor == 0 || is_last_method(method) || asks_close(buf, headers, len)
 }
 
-// Whether a client that sends this method reads no body of the reply.
-fn has_no_body(method: &[u8]) -> bool
-    ensures { result ≡ spec.has_no_body method.now }
+// Whether the connection ends with the reply to this method: a client that sends HEAD reads no body
+// of it, and one that sends CONNECT may take what follows it for the tunnel.
+fn is_last_method(method: &[u8]) -> bool
+    ensures { result ≡ spec.is_last_method method.now }
 {
     method == b"HEAD".as_slice() || method == b"CONNECT".as_slice()
 }

@@ -1,5 +1,5 @@
 ghost use Rattle.page_http.specs.Answers.{RequestsHaveOneReply};
-ghost use Rattle.page_http.specs.Laws.{AnswersExclude};
+ghost use Rattle.page_http.specs.Laws.{AnswersExclude, AnswersStay};
 ghost use Rattle.page_http.specs.Responses.{RepliesAreResponses};
 
 /// No bytes begin with two requests, or with a request and a part of one, or with a request and a
@@ -8,6 +8,12 @@ ghost use Rattle.page_http.specs.Responses.{RepliesAreResponses};
 /// do, or the target goes on and is already no text. A theorem; the call does nothing at run time.
 pub fn answers_exclude()
     ensures { AnswersExclude }
+{}
+
+/// Whatever bytes follow, the request that the bytes begin with stays the first, and a status that
+/// refuses them refuses them still. A theorem; the call does nothing at run time.
+pub fn answers_stay()
+    ensures { AnswersStay }
 {}
 
 /// A request has one reply for a set's pages and number: a page, the number, or a refusal with one

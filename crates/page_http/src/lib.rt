@@ -1,4 +1,5 @@
-// Requests of HTTP/1.x, cut from bytes. Heads are what the kit's `httparse` takes.
+// Requests of HTTP/1.x, cut from bytes, and the bytes of their replies. Heads are what the kit's
+// `httparse` takes.
 #![tactic(auto)]
 
 mod answer;
@@ -21,7 +22,7 @@ mod unavailable;
 
 pub use answer::{Answer, reply_to};
 pub use ask::{Ask, read_ask, read_ask_by};
-pub use laws::{answers_exclude, replies_are_responses, requests_have_one_reply};
+pub use laws::{answers_exclude, answers_stay, replies_are_responses, requests_have_one_reply};
 pub use page::{number_reply, page_reply};
 pub use read::{MAX_BODY, MAX_FIELDS, MAX_HEAD, ReadOne, read_request};
 pub use refusal::phrase_reply;

@@ -1,5 +1,6 @@
 ghost use Rattle.std.specs.Prelude.{◌≡◌, IfOk};
 ghost use Rattle.page_datum.specs.View.{view};
+ghost use Rattle.page_http.specs.Pages.{IsPage};
 ghost use Rattle.page_http.specs.Pages as spec;
 ghost use Rattle.page_http.specs.Replies.{IsSendable};
 
@@ -12,7 +13,8 @@ use std::alloc::Global;
 
 /// The reply with the page of a root with a datum, where the set has this number: 200 with the page
 /// where the execution is done, 404 where no root has the name, and 500 with the fault where it
-/// meets one. Fails only if memory runs out.
+/// meets one. The execution is one of the set's files, and a page is sound. Fails only if memory
+/// runs out.
 pub fn page_reply<P: Pages>(
     alloc: Global,
     pages: &P,
@@ -23,6 +25,10 @@ pub fn page_reply<P: Pages>(
     ensures sendable { IfOk result IsSendable }
     ensures reply { IfOk result (λ reply. reply
         ≡ spec.page_reply (P.execution pages.now name.now (view datum.now)) number) }
+    ensures meant { P.is_execution (P.made_of pages.now) name.now (view datum.now)
+        (P.execution pages.now name.now (view datum.now)) }
+    ensures sound { IfOk result (λ reply. IsPage reply
+        → P.is_sound (P.made_of pages.now) name.now (view datum.now) reply.body) }
 {
     let mut body = BodySink::new(alloc);
     match pages.page(alloc, name, datum, &mut body) {
