@@ -7,7 +7,7 @@ use std::alloc::Global;
 /// Writes what the request of a row asks for, where the set has the number of the row: a page with
 /// its data, `Number`, `Reload`, or the bytes of the reply that refuses it.
 pub fn put_ask(out: &mut CaseOutput, row: &CaseRow) -> Result<(), CaseStop> {
-    let request = request_of(out.alloc(), row)?;
+    let request = request_at(out.alloc(), row, 0)?;
     let number = row.count(1)?;
     let Ok(ask) = read_ask(out.alloc(), &request, number) else {
         return Err(CaseStop::Memory);
@@ -21,9 +21,9 @@ pub fn put_ask(out: &mut CaseOutput, row: &CaseRow) -> Result<(), CaseStop> {
     Ok(())
 }
 
-// The request that the bytes of a row are, to their end.
-fn request_of(alloc: Global, row: &CaseRow) -> Result<Request, CaseStop> {
-    let bytes = row.bytes(alloc, 0)?;
+/// The request that the bytes of a part of a row are, to their end.
+pub fn request_at(alloc: Global, row: &CaseRow, part: usize) -> Result<Request, CaseStop> {
+    let bytes = row.bytes(alloc, part)?;
     match read_request(alloc, bytes.as_slice()) {
         Ok(ReadOne::Whole(request, used)) if used == bytes.len() => Ok(request),
         _ => Err(CaseStop::Form),

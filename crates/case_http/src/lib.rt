@@ -1,6 +1,7 @@
 // The calls of tables of cases on requests and replies of HTTP.
 #![tactic(auto)]
 
+mod answers;
 mod asks;
 mod replies;
 mod requests;
@@ -12,6 +13,7 @@ pub fn put_http(out: &mut CaseOutput, call: &str, row: &CaseRow) -> Result<(), C
     match call {
         "read_request" => requests::put_request(out, row),
         "read_ask" => asks::put_ask(out, row),
+        "reply_to" => answers::put_answer(out, row),
         "reply_bytes" => replies::put_reply(out, row),
         "phrase_reply" => replies::put_phrase(out, row),
         "number_reply" => replies::put_number(out, row),
