@@ -2,6 +2,7 @@ use case_data::{
     is_of_system, put_acts, put_data, put_devices, put_formats, put_in_script, put_in_style,
     put_in_url, put_replaced, put_sanitized, put_system, put_text, put_values, put_words,
 };
+use case_http::put_http;
 use case_pages::{put_commands, put_pages};
 use case_places::{
     put_charts, put_explained, put_places, put_script_parts, put_style_parts, put_url_parts,
@@ -73,6 +74,7 @@ fn put_of_pages(
         "page_datum" => put_data(out, call, row),
         "page_set" => put_pages(out, call, row),
         "page_tool" => put_commands(out, call, row),
+        "page_http" => put_http(out, call, row),
         _ => Err(CaseStop::Form),
     }
 }

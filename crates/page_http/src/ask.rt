@@ -102,7 +102,8 @@ fn is_bad(at_least: AtLeast) -> bool
 
 // What is asked of a destination.
 fn plan_destination<'r>(request: &'r Request, destination: Destination<'r>, number: u64) -> Plan<'r>
-    ensures plan { Plans (spec.plan_destination request.now (destination_view destination.entry) number) result }
+    ensures plan { let to = destination_view destination.entry in
+        Plans (spec.plan_destination request.now to number) result }
     ensures sendable { IsPlanSendable result }
 {
     let methods = methods(destination);
@@ -150,7 +151,8 @@ fn behind(at_least: AtLeast, number: u64) -> Option<u64>
 }
 
 fn plan_content<'r>(request: &'r Request, destination: Destination<'r>) -> Plan<'r>
-    ensures plan { Plans (spec.plan_content request.now (destination_view destination.entry)) result }
+    ensures plan { let to = destination_view destination.entry in
+        Plans (spec.plan_content request.now to) result }
     ensures sendable { IsPlanSendable result }
 {
     match destination {
