@@ -18,7 +18,7 @@ use place_core::{Chars, Js, Mode, Step, StepErr};
 /// as those of the characters: in bytes from the beginning of the node. A cause stands at the character that holds the byte where it
 /// stands; that may be one before the character at which it is known. At the end of the characters it stands one byte behind the place of
 /// the last of them, where it stands at none. What is shown is the place before the lexeme in which the cause stands: before the slash, the
-/// `<!--`, the escape, the `[`, the outermost template literal. The causes:
+/// `<!--`, the escape, the `[`, the outermost template literal; and at `BadString` the place before the end of the line. The causes:
 ///
 /// - `SlashAmbig`: a slash that begins no comment, where one divides on one path and begins a regular expression on another one, or where
 ///   it is not known what it begins, as behind a `}`. So it is at the end.

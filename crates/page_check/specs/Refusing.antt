@@ -3,9 +3,10 @@ use Rattle.std.specs.Prelude.{◌≡◌, ◌≢◌, ◌≤◌, ◌<◌, ℕ, Lis
 use Rattle.std.specs.Str.{IsUtf8}
 use Rattle.page_check.specs.Definitions.{HaveDefs, IsForestOf}
 use Rattle.page_check.specs.Roots.{roots_of}
-use Rattle.page_check.specs.Texts.{IsFileText, max_file}
+use Rattle.page_check.specs.Texts.{IsFileText}
 use Rattle.page_check.specs.declared.refused.MakeRefused.{MakeRefused}
 use Rattle.page_check.specs.declared.refused.MakeRefused.TheVariants.{TooLarge, NotUtf8, File, TooManyTemplates, NoTemplates, Set, Memory}
+use Rattle.page_datum.specs.TemplateFiles.{max_file}
 use Rattle.page_datum.specs.declared.files.NamedFile.{NamedFile}
 use Rattle.place_infer.specs.Inferring as infer
 use Rattle.place_infer.specs.declared.set_refused.SetRefused.{SetRefused}

@@ -1,11 +1,8 @@
 -- Which files are texts.
-use Rattle.std.specs.Prelude.{ℕ, ◌≤◌, length}
+use Rattle.std.specs.Prelude.{◌≤◌, length}
 use Rattle.std.specs.Str.{IsUtf8}
+use Rattle.page_datum.specs.TemplateFiles.{max_file}
 use Rattle.page_datum.specs.declared.files.NamedFile.{NamedFile}
-
--- the most bytes that a file may have
-abbrev pub max_file : ℕ
-max_file = 1048576
 
 -- a file within the limit, of UTF-8
 pub record IsFileText (file : NamedFile) : Type 0 where

@@ -16,5 +16,5 @@ pub use checked::Checked;
 pub use checking::check_files;
 pub use laws::error_free_files_are_not_refused;
 pub use names::is_partial;
-pub use refused::{MAX_FILE, MakeRefused};
+pub use refused::MakeRefused;
 pub use root_start::RootStart;

@@ -3,8 +3,8 @@ ghost use Rattle.page_check.specs.Reading.{IsMemoryOr, ReadFileAnswers, ReadFile
 ghost use Rattle.page_check.specs.declared.refused.MakeRefused.TheVariants as make;
 ghost use Rattle.tpl_parse.specs.declared.refused.FileRefused.TheVariants as file_refused;
 
-use crate::refused::{MAX_FILE, MakeRefused};
-use page_datum::NamedFile;
+use crate::refused::MakeRefused;
+use page_datum::{MAX_FILE, NamedFile};
 use page_io::{List, Memory, Text};
 use std::alloc::Global;
 use tpl_parse::{File, FileRefused, parse_file};

@@ -4,15 +4,12 @@ use page_io::{Memory, Text};
 use place_infer::SetRefused;
 use tpl_parse::FileRefused;
 
-/// The most bytes that a file may have.
-pub const MAX_FILE: usize = 1_048_576;
-
 /// Why files are refused. The first cause that holds is reported: of the first file, in the order of the files, that has a cause,
 /// its size, its bytes, its tokens, and then the tokens as a template; and then that there are too many names, that there is no root,
 /// and why the set has no chart.
 #[derive(Debug, Drop)]
 pub enum MakeRefused {
-    /// A file has more bytes than `MAX_FILE`.
+    /// A file has more bytes than `MAX_FILE` of `page_datum`.
     TooLarge(Text),
     /// A file is not UTF-8.
     NotUtf8(Text),

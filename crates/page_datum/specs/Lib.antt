@@ -11,4 +11,5 @@ pub mod Putting
 pub mod Reading
 pub mod Single
 pub mod Sizes
+pub mod TemplateFiles
 pub mod View

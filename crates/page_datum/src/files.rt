@@ -1,5 +1,8 @@
 use page_io::{Bytes, List, Text};
 
+/// The most bytes that a template file may have.
+pub const MAX_FILE: usize = 1_048_576;
+
 /// A file: its name in its directory, and its bytes.
 #[derive(Debug, Drop)]
 pub struct NamedFile {

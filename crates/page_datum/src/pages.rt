@@ -34,7 +34,7 @@ pub struct PageEnd {
 
 /// A set of pages, made of files.
 pub trait Pages: Sized {
-    type Refused: Shown;
+    type Refused: Shown + Drop;
 
     // The files that a set was made of.
     ghost made_of: { Self → Files };

@@ -6,5 +6,6 @@ mod root_page;
 mod set;
 
 pub use laws::executions_are_one;
-pub use page_check::{Checked, MAX_FILE, MakeRefused, check_files};
+pub use page_check::{Checked, MakeRefused, check_files};
+pub use page_datum::MAX_FILE;
 pub use set::PageSet;

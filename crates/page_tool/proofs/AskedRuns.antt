@@ -10,7 +10,7 @@ use Rattle.page_tool.specs.Checking.{CheckCause}
 use Rattle.page_tool.specs.Command.{CommandNeedsCause}
 use Rattle.page_tool.specs.Devices.{Devices}
 use Rattle.page_tool.specs.Explaining.{ExplainCause}
-use Rattle.page_tool.specs.Files.{files_of}
+use Rattle.page_datum.specs.TemplateFiles.{files_of}
 use Rattle.page_tool.specs.LoadedSets.{IsRefusedFor}
 use Rattle.page_tool.specs.Making.{IsMadeRefused, MakeCause}
 use Rattle.page_tool.specs.Output.{StatusCause}

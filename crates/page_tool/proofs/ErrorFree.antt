@@ -11,7 +11,7 @@ use Rattle.page_tool.specs.Checking.{CheckCause}
 use Rattle.page_tool.specs.Command.{CommandHasNoError, is_accepted}
 use Rattle.page_tool.specs.Devices.{Devices}
 use Rattle.page_tool.specs.Explaining.{ExplainCause}
-use Rattle.page_tool.specs.Files.{files_of}
+use Rattle.page_datum.specs.TemplateFiles.{files_of}
 use Rattle.page_tool.specs.LoadedSets.{IsSet, IsSetWith, IsSetWithout}
 use Rattle.page_tool.specs.Making.{IsMadeSetOf, MakeCause}
 use Rattle.page_tool.specs.Output.{StatusCause}

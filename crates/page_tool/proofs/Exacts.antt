@@ -11,7 +11,7 @@ use Rattle.page_datum.specs.declared.refused.DataRefused.{DataRefused}
 use Rattle.page_tool.proofs.Renderings.{never_both}
 use Rattle.page_tool.proofs.SetLaws.{accepted, apart, refuses}
 use Rattle.page_tool.specs.Exact.{Ends, IsExact}
-use Rattle.page_tool.specs.Files.{files_of}
+use Rattle.page_datum.specs.TemplateFiles.{files_of}
 use Rattle.page_tool.specs.LoadedSets.{IsSetWith, IsSetWithout}
 use Rattle.page_tool.specs.Output.{HasInput, IsRendering, WhenKnown, StatusCause}
 use Rattle.page_tool.specs.declared.status.Status.{Status}

@@ -9,7 +9,7 @@ use Rattle.page_io.specs.FolderContents.{FolderContents}
 use Rattle.page_tool.specs.Explaining.{ExplainAnswers, ExplainCause, ExplainExact, ExplainLines, ExplainOutput, IsExplanation}
 use Rattle.page_tool.specs.Codes.{status_for}
 use Rattle.page_tool.specs.Exact.{Ends}
-use Rattle.page_tool.specs.Files.{files_of}
+use Rattle.page_datum.specs.TemplateFiles.{files_of}
 use Rattle.page_tool.specs.Lines.{Says, stop_text}
 use Rattle.page_tool.specs.LoadedSets.{IsSetWith, IsSetWithout}
 use Rattle.page_tool.specs.SetTexts.{WritesText, WritesTextPart}

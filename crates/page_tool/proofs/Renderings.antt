@@ -7,7 +7,7 @@ use Rattle.page_datum.specs.Execution.{Execution, done, faulted}
 use Rattle.page_datum.specs.declared.fault.ExecFault.{ExecFault}
 use Rattle.page_set.proofs.OneExecution.{one-execution}
 use Rattle.page_set.specs.Executions.{IsExecution}
-use Rattle.page_tool.specs.Files.{files_of}
+use Rattle.page_datum.specs.TemplateFiles.{files_of}
 use Rattle.page_tool.specs.Output.{IsRendering}
 
 one_rendering : (h : FolderContents) (dir root i : List ℕ) (a b : Execution) → IsRendering h dir root i a → IsRendering h dir root i b → a ≡ b

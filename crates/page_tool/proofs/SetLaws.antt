@@ -6,7 +6,7 @@ use Rattle.page_check.specs.declared.refused.MakeRefused.{MakeRefused}
 use Rattle.page_check.proofs.NotRefused.{no_cause}
 use Rattle.page_datum.specs.declared.files.Files.{Files}
 use Rattle.page_io.specs.FolderContents.{FolderContents}
-use Rattle.page_tool.specs.Files.{files_of}
+use Rattle.page_datum.specs.TemplateFiles.{files_of}
 use Rattle.page_tool.specs.LoadedSets.{IsRefusedFor, IsSet, IsSetRefusedFor, IsSetWith, IsSetWithout}
 
 pub accepted : (h : FolderContents) (dir : List ℕ) → IsSet h dir → FilesRefuse (files_of h dir).list → ⊥

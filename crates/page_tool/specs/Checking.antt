@@ -9,7 +9,7 @@ use Rattle.page_check.specs.Roots.{roots_of}
 use Rattle.page_check.specs.declared.refused.MakeRefused.{MakeRefused}
 use Rattle.page_io.specs.FolderContents.{FolderContents}
 use Rattle.page_tool.specs.Exact.{Ends}
-use Rattle.page_tool.specs.Files.{files_of}
+use Rattle.page_datum.specs.TemplateFiles.{files_of}
 use Rattle.page_tool.specs.Lines.{stop_text}
 use Rattle.page_tool.specs.LoadedSets.{IsRefusedFor, IsSet, IsSetRefusedFor, IsLoadedSetOf}
 use Rattle.page_tool.specs.SetTexts.{TextOutput, WritesText, WritesTextPart}

@@ -7,7 +7,7 @@ use Rattle.page_tool.specs.Checking.{CheckCause, CheckExact, CheckLines, CheckOu
 use Rattle.page_tool.specs.Devices.{Devices, IsUnread}
 use Rattle.page_tool.specs.Exact.{IsExact}
 use Rattle.page_tool.specs.Explaining.{ExplainCause, ExplainExact, ExplainLines, ExplainOutput}
-use Rattle.page_tool.specs.Files.{files_of}
+use Rattle.page_datum.specs.TemplateFiles.{files_of}
 use Rattle.page_tool.specs.Lines.{usage_text, StatusText}
 use Rattle.page_tool.specs.LoadedSets.{IsSetWith}
 use Rattle.page_tool.specs.Making.{MakeCause, MakeExact, MakeLines, MakeOutput}

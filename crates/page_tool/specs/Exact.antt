@@ -6,7 +6,7 @@ use Rattle.page_datum.specs.Execution.{Execution, done, faulted}
 use Rattle.page_datum.specs.Reading.{IsNoDatum}
 use Rattle.page_datum.specs.declared.fault.ExecFault.{ExecFault}
 use Rattle.page_datum.specs.declared.refused.DataRefused.{DataRefused}
-use Rattle.page_tool.specs.Files.{files_of}
+use Rattle.page_datum.specs.TemplateFiles.{files_of}
 use Rattle.page_tool.specs.LoadedSets.{IsSetWith, IsSetWithout}
 use Rattle.page_tool.specs.Output.{IsRendering, WhenKnown}
 use Rattle.page_tool.specs.declared.status.Status.{Status}

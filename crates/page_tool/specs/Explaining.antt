@@ -5,7 +5,7 @@ use Rattle.page_check.specs.Refusing.{FilesRefuse}
 use Rattle.page_io.specs.FolderContents.{FolderContents}
 use Rattle.page_tool.specs.Checking.{CheckCause, CheckLines}
 use Rattle.page_tool.specs.Exact.{Ends}
-use Rattle.page_tool.specs.Files.{files_of}
+use Rattle.page_datum.specs.TemplateFiles.{files_of}
 use Rattle.page_tool.specs.Lines.{stop_text}
 use Rattle.page_tool.specs.LoadedSets.{IsLoadedSetOf, IsSetRefusedFor, IsSetWith, IsSetWithout}
 use Rattle.page_tool.specs.SetTexts.{TextOutput, WritesText, WritesTextPart}

@@ -5,7 +5,6 @@ pub mod Command
 pub mod Devices
 pub mod Exact
 pub mod Explaining
-pub mod Files
 pub mod Input
 pub mod Lines
 pub mod LoadedSets

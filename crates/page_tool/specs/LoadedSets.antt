@@ -8,7 +8,7 @@ use Rattle.page_check.specs.declared.checked.Checked.{Checked}
 use Rattle.page_check.specs.declared.refused.MakeRefused.{MakeRefused}
 use Rattle.page_check.specs.declared.refused.MakeRefused.TheVariants as make
 use Rattle.page_io.specs.FolderContents.{FolderContents}
-use Rattle.page_tool.specs.Files.{files_of}
+use Rattle.page_datum.specs.TemplateFiles.{files_of}
 use Rattle.page_tool.specs.declared.stop.CommandStop.{CommandStop}
 use Rattle.page_tool.specs.declared.stop.CommandStop.TheVariants as stop
 

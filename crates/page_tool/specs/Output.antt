@@ -10,7 +10,7 @@ use Rattle.page_datum.specs.declared.fault.ExecFault.{ExecFault}
 use Rattle.page_datum.specs.declared.refused.DataRefused.{DataRefused}
 use Rattle.page_check.specs.declared.refused.MakeRefused.{MakeRefused}
 use Rattle.page_set.specs.Executions.{IsExecution, IsSoundPageOfFiles}
-use Rattle.page_tool.specs.Files.{files_of}
+use Rattle.page_datum.specs.TemplateFiles.{files_of}
 use Rattle.page_tool.specs.Input.{IsInputRefusedFor}
 use Rattle.page_tool.specs.LoadedSets.{IsRefusedFor, IsSetRefusedFor, IsSetWith, IsSetWithout}
 use Rattle.page_tool.specs.declared.status.Status.{Status}

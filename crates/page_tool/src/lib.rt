@@ -5,7 +5,6 @@ mod asked;
 mod check;
 mod explain;
 mod input;
-mod load;
 mod make;
 mod nowhere;
 mod program;

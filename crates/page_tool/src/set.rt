@@ -4,9 +4,9 @@ ghost use Rattle.page_io.specs.Causes.{Rose};
 ghost use Rattle.page_tool.specs.LoadedSets.{LoadSetAnswers};
 ghost use Rattle.page_tool.specs.SetTexts.{WriteTextAnswers};
 
-use crate::load::load;
 use crate::stop::CommandStop;
 use page_check::{Checked, MakeRefused, check_files};
+use page_datum::load;
 use page_io::{Failed, Folder, IoStop, Sink, Text, write_all};
 use std::alloc::Global;
 

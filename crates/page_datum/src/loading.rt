@@ -1,10 +1,9 @@
 ghost use Rattle.std.specs.Prelude.{◌≡◌, ◌++◌, ◌∷◌, [], IfOk, IfSome, OnOk};
 ghost use Rattle.page_io.specs.Causes.{HasStop};
-ghost use Rattle.page_tool.specs.Files.{files_in, files_of};
-ghost use Rattle.page_tool.specs.Files as spec;
+ghost use Rattle.page_datum.specs.TemplateFiles.{files_in, files_of};
+ghost use Rattle.page_datum.specs.TemplateFiles as spec;
 
-use page_check::MAX_FILE;
-use page_datum::{Files, NamedFile};
+use crate::files::{Files, MAX_FILE, NamedFile};
 use page_io::{Folder, IoStop, List, Text};
 use std::alloc::Global;
 

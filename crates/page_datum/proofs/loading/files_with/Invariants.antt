@@ -1,7 +1,7 @@
 use Rattle.std.proofs.Common.{◌≡◌, ◌≤◌, ◌++◌, drop}
 use Rattle.std.specs.Prelude.{IfSome}
-use Rattle.page_tool.specs.Files.{files_in}
-use Rattle.page_tool.proofs.load.files_with.Given as goal
+use Rattle.page_datum.specs.TemplateFiles.{files_in}
+use Rattle.page_datum.proofs.loading.files_with.Given as goal
 
 abbrev pub invariant-loop-name : goal.invariant-loop-name
 invariant-loop-name g l = record {

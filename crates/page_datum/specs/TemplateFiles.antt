@@ -5,7 +5,10 @@ use Rattle.std.specs.List.{ends_with}
 use Rattle.page_io.specs.FolderContents.{FolderContents}
 use Rattle.page_datum.specs.declared.files.Files.{Files}
 use Rattle.page_datum.specs.declared.files.NamedFile.{NamedFile}
-use Rattle.page_check.specs.Texts.{max_file}
+
+-- the most bytes that a template file may have
+abbrev pub max_file : ℕ
+max_file = 1048576
 
 -- a name that ends in `.html`
 abbrev pub is_template : List ℕ → Bool
