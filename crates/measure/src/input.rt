@@ -3,6 +3,7 @@ ghost use Rattle.page_datum.specs.Reading.{max_length};
 
 use crate::nests::{Nest, nests};
 use crate::request::Input;
+use crate::requests::{body, heads};
 use crate::template_sets::{chain, pairs};
 use crate::units::{push_units, push_within};
 use std::alloc::{AllocError, Global};
@@ -38,6 +39,8 @@ pub fn input_of(alloc: Global, input: Input, size: usize) -> Result<String, Allo
         Input::Pairs => pairs(alloc, size),
         Input::Nests => nests(alloc, TAGS, size),
         Input::Values => nests(alloc, VALUES, size),
+        Input::Heads => heads(alloc, size),
+        Input::Body => body(alloc, size),
         Input::One | Input::Four => Ok(String::new(alloc)),
     }
 }

@@ -15,6 +15,7 @@ mod locks;
 mod looks;
 mod nests;
 mod request;
+mod requests;
 mod template_sets;
 mod units;
 mod whole_page;
@@ -25,6 +26,7 @@ use crate::input::input_of;
 use crate::locks::{four_lock, one_locks};
 use crate::looks::{four_look, one_looks};
 use crate::request::{Input, Measured, Measurement, most, size_named, words_named};
+use crate::requests::requests_counted;
 use crate::whole_page::{data_of, page_counted};
 use html_step::{after_text, print_place};
 use html_words::RefChars;
@@ -73,6 +75,7 @@ fn main(rt: HostRuntime) -> ExitCode {
                 "      page-scripts page-script-elements pages-scripts pages-script-elements"
             );
             let _ = eprintln!(&rt; "      page-variables page-dropped page-names page-slices");
+            let _ = eprintln!(&rt; "      requests-heads requests-body");
             let _ = eprintln!(&rt; "      looks-1 looks-4 locks-1 locks-4");
             return ExitCode::from(2);
         }
@@ -165,6 +168,7 @@ fn counted<R: Threads + Wait + Sync>(
             text.as_str(),
             1,
         ),
+        Measured::Requests => requests_counted(alloc, text.as_str()),
         Measured::Looks if input == Input::One => one_looks(rt, alloc, size),
         Measured::Looks => four_look(rt, alloc, size),
         Measured::Locks if input == Input::One => one_locks(rt, alloc, size),

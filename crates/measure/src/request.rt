@@ -45,6 +45,8 @@ pub enum Measured {
     Names,
     /// The same, with a condition on all of it but one item.
     Slices,
+    /// It is read as requests, one after another, and each is answered by the number of a set.
+    Requests,
     /// Viewers look at a desk that publishes sets, each as often as the input may have bytes.
     Looks,
     /// The same, but the set is behind a lock.
@@ -107,6 +109,10 @@ pub enum Input {
     Nests,
     /// Ranges in ranges in a value without quotes, so that each has one place before its first turn and another one after it.
     Values,
+    /// Requests of 8 fields without a body, again and again.
+    Heads,
+    /// A request with a body that takes almost all bytes.
+    Body,
     /// Nothing; one thread looks.
     One,
     /// Nothing; four threads look.
@@ -182,6 +188,8 @@ pub fn words_named(word: &str) -> Option<(Measured, Input)> {
         "pages-scripts" => Some((Measured::Pages, Input::Scripts)),
         "pages-script-elements" => Some((Measured::Pages, Input::ScriptElements)),
         "pages-text" => Some((Measured::Pages, Input::Text)),
+        "requests-heads" => Some((Measured::Requests, Input::Heads)),
+        "requests-body" => Some((Measured::Requests, Input::Body)),
         "looks-1" => Some((Measured::Looks, Input::One)),
         "looks-4" => Some((Measured::Looks, Input::Four)),
         "locks-1" => Some((Measured::Locks, Input::One)),
@@ -202,6 +210,7 @@ pub fn most(call: Measured) -> usize
         | Measured::Dropped
         | Measured::Names
         | Measured::Slices
+        | Measured::Requests
         | Measured::Looks
         | Measured::Locks => MAX_LENGTH,
         Measured::Tokens
