@@ -1,0 +1,4 @@
+pub mod Doors
+pub mod Loans
+pub mod Nets
+pub mod Tellings
