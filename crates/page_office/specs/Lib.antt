@@ -1,0 +1,5 @@
+pub mod BackOffice
+pub mod Clerks
+pub mod Learning
+pub mod Reloads
+pub mod Replies
