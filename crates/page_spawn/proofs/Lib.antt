@@ -1,0 +1,4 @@
+pub mod Completing
+pub mod EachLaws
+pub mod Examples
+pub mod Stacks
