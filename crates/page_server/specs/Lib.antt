@@ -1,0 +1,10 @@
+pub mod Answering
+pub mod Buffers
+pub mod Held
+pub mod Laws
+pub mod Sending
+pub mod Serving
+pub mod Sessions
+pub mod Turns
+pub mod Viewing
+pub mod Waiting
