@@ -6,7 +6,7 @@ ghost use Rattle.page_spawn.specs.Gates.{DoesAsTold, Each};
 use crate::gate::set;
 use crate::joining::{join_ends, put_back};
 use crate::spawner::SpawnStop;
-use crate::turn::{BehindGate, Started, Turn, TurnEnd, take_turn};
+use crate::turn::{BehindGate, GatePromise, Started, TurnEnd, take_turn};
 use crate::worker::Worker;
 use page_io::List;
 use std::alloc::Global;
@@ -112,7 +112,7 @@ fn start<'s, W: Worker + Send + Drop + 's, R: Threads + Wait + Sync, E>(
     ensures shut { IfErr result (λ refused.
         (refused.1.of ≡ gate.now.id) × (refused.1.value ≡ false)) }
 {
-    let turn = Turn {
+    let turn = GatePromise {
         worker: Snapshot::of(&worker),
         gate,
     };

@@ -21,16 +21,16 @@ pub(crate) enum BehindGate<E, W> {
 pub(crate) type TurnEnd<'g, W> = (BehindGate<<W as Worker>::End, W>, OnceToken<'g, bool>);
 
 /// A thread that has started, with its promise.
-pub(crate) type Started<'g, W> = PromisedHandle<TurnEnd<'g, W>, Turn<'g, W>>;
+pub(crate) type Started<'g, W> = PromisedHandle<TurnEnd<'g, W>, GatePromise<'g, W>>;
 
 /// The promise of a thread: with this worker it does what this gate says.
 #[derive(Drop)]
-pub(crate) struct Turn<'g, W> {
+pub(crate) struct GatePromise<'g, W> {
     pub(crate) worker: Snapshot<W>,
     pub(crate) gate: &'g OnceLock<bool>,
 }
 
-impl<'g, W: Worker> Promise<TurnEnd<'g, W>> for Turn<'g, W> {
+impl<'g, W: Worker> Promise<TurnEnd<'g, W>> for GatePromise<'g, W> {
     ghost use Rattle.std.specs.Prelude.{◌≡◌};
     ghost use Rattle.page_spawn.specs.Gates.{DoesAsTold};
 
