@@ -1,4 +1,4 @@
-ghost use Rattle.std.specs.Prelude.{◌≡◌, ◌+◌, ◌-◌, ◌^◌, ◌↔◌, ◌<◌, [], length, min, Some, IfOk, IsErr, OnErr, Contains};
+ghost use Rattle.std.specs.Prelude.{◌≡◌, ◌+◌, ◌-◌, ◌^◌, ◌↔◌, ◌<◌, [], length, min, Some, IfOk, IfSome, IsErr, OnErr, Contains};
 ghost use Rattle.page_io.specs.Causes.{HasCause};
 ghost use Rattle.page_net.specs.Doors.{Accepts, TakesLinkBack};
 ghost use Rattle.page_net.specs.Loans.{door_told};
@@ -35,7 +35,7 @@ impl<L: Link + Drop> MemDoor<L> {
 
     /// The links that are back, in order.
     pub fn back(&self) -> &[L]
-        ensures { result.now ≡ self.now.links.back }
+        ensures { IfSome (⟦<MemDoor<L> as Door>⟧.told self.now) (λ t. result.now ≡ t.back) }
     {
         self.links.back()
     }

@@ -1,4 +1,4 @@
-ghost use Rattle.std.specs.Prelude.{◌≡◌, ◌+◌, ◌-◌, ◌^◌, ◌<◌, ◌⊎◌, ◌∷◌, All, [], length, min, Some, IfOk, IsErrOf, OnErr, Contains};
+ghost use Rattle.std.specs.Prelude.{◌≡◌, ◌+◌, ◌-◌, ◌^◌, ◌<◌, ◌⊎◌, ◌∷◌, All, [], length, min, Some, IfOk, IfSome, IsErrOf, OnErr, Contains};
 ghost use Rattle.page_io.specs.Causes.{HasStop};
 ghost use Rattle.page_io.specs.declared.stop.IoStop.TheVariants as stop;
 ghost use Rattle.page_net.specs.Doors.{IsFreshDoor};
@@ -44,7 +44,7 @@ impl<L: Link + Drop> MemNet<L> {
 
     /// The doors that are back, in order.
     pub fn back(&self) -> &[MemDoor<L>]
-        ensures { result.now ≡ self.now.doors.back }
+        ensures { IfSome (⟦<MemNet<L> as Net>⟧.told self.now) (λ t. result.now ≡ t.back) }
     {
         self.doors.back()
     }

@@ -1,4 +1,4 @@
-ghost use Rattle.std.specs.Prelude.{◌≡◌, ◌+◌, ◌<◌, [], length, Some, IfOk};
+ghost use Rattle.std.specs.Prelude.{◌≡◌, ◌+◌, ◌<◌, [], length, Some, IfOk, IfSome};
 ghost use Rattle.page_net.specs.Doors.{TakesLinkBack};
 ghost use Rattle.page_net.specs.Loans.{door_told};
 
@@ -28,7 +28,7 @@ impl<L: Link + Drop> SureDoor<L> {
 
     /// The links that are back, in order.
     pub fn back(&self) -> &[L]
-        ensures { result.now ≡ self.now.links.back }
+        ensures { IfSome (⟦<SureDoor<L> as Door>⟧.told self.now) (λ t. result.now ≡ t.back) }
     {
         self.links.back()
     }

@@ -1,4 +1,4 @@
-ghost use Rattle.std.specs.Prelude.{◌≡◌, ◌+◌, ◌<◌, ◌∷◌, All, [], length, Some, IfOk, OnErr};
+ghost use Rattle.std.specs.Prelude.{◌≡◌, ◌+◌, ◌<◌, ◌∷◌, All, [], length, Some, IfOk, IfSome, OnErr};
 ghost use Rattle.page_io.specs.Causes.{HasStop};
 ghost use Rattle.page_net.specs.Doors.{IsFreshDoor};
 ghost use Rattle.page_net.specs.Nets.{GivesDoor, TakesDoorBack};
@@ -37,7 +37,7 @@ impl<L: Link + Drop> SureNet<L> {
 
     /// The doors that are back, in order.
     pub fn back(&self) -> &[SureDoor<L>]
-        ensures { result.now ≡ self.now.doors.back }
+        ensures { IfSome (⟦<SureNet<L> as Net>⟧.told self.now) (λ t. result.now ≡ t.back) }
     {
         self.doors.back()
     }
