@@ -1,5 +1,5 @@
 -- What the definitions say, and what they do not allow.
-use Rattle.std.proofs.Common.{◌≡◌, ℕ, ◌+◌, Bool, false, List, [], ◌∷◌, ◌++◌, length, codes, refl, ap, subst, Option, Some, None, Result, Ok, Err, IsErr, length-append, arith}
+use Rattle.std.proofs.Common.{◌≡◌, ℕ, Bool, false, List, [], ◌∷◌, ◌++◌, length, codes, refl, ap, subst, Option, Some, None, Result, Ok, Err, IsErr, length-append, arith}
 use Rattle.std.specs.Arc.{arc_value}
 use Rattle.page_io.specs.Causes.{Rose}
 use Rattle.page_io.specs.FolderContents.{FolderContents}

@@ -125,8 +125,8 @@ impl<F: Folder, P: Pages + Drop, S: Notice<P>, J: Named> Back<F, P, S, J> {
         }
     }
 
-    /// Makes a set of the template files as they are now, and publishes it. It may wait for viewers
-    /// that are just looking. After an error the list of sets is as before.
+    /// Makes a set of the template files as they are now, and publishes it. After an error the list
+    /// of sets is as before. It may wait for viewers that are just looking.
     pub fn reload<R: Wait>(
         &mut self,
         alloc: Global,
@@ -147,9 +147,13 @@ impl<F: Folder, P: Pages + Drop, S: Notice<P>, J: Named> Back<F, P, S, J> {
         }
     }
 
-    /// Answers a reload that a client of this viewer asked for, where the viewer has the number: it
-    /// reloads, and the viewer learns of the set that was published. It may wait for viewers that
-    /// are just looking.
+    /// Answers a reload that a client of this viewer asked for: reloads, and has the viewer learn of
+    /// the set that was published. It may wait for viewers that are just looking.
+    ///
+    /// The reply is 200 with the number of the last set that the viewer has seen then; or, with the
+    /// number that was handed in, 422 with the lines of a refusal, or 500 where the folder failed.
+    /// The error is out of memory: the list of sets is then as before, or has one more set, of which
+    /// the viewer has learnt.
     pub fn answer<R: Wait>(
         &mut self,
         alloc: Global,

@@ -18,12 +18,11 @@ pub trait Clerk<V: Drop, S: Notice<V>, J: Named> {
     // The replies that the clerk gave, where it tells them.
     ghost given: { Self → Option (List Reply) };
 
-    /// Answers a reload that a client of this viewer asked for, where the viewer has the number. It
-    /// may wait.
+    /// Answers a reload that a client of this viewer asked for. It may wait.
     ///
-    /// The reply is 200 with the number of the last set that the viewer has seen then; or 422 with
-    /// the lines of a refusal, or 500 where the folder failed, both with the number handed in, and
-    /// then the viewer has seen what it had. The error is out of memory, which may come after a
+    /// The reply is 200 with the number of the last set that the viewer has seen then; or, with the
+    /// number that was handed in, 422 with the lines of a refusal, or 500 where the folder failed,
+    /// and then the viewer has seen what it had. The error is out of memory, which may come after a
     /// publish.
     fn answer<R: Wait>(
         &mut self,

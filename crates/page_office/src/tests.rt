@@ -339,3 +339,48 @@ fn clerks_answer_in_threads(rt: HostRuntime) -> Result<(), Fail> {
     assert!(rt; good);
     Ok(())
 }
+
+// After each answer, also where memory runs out, the viewer that asked has seen the whole list.
+fn reload_short<J: Named, R: Wait>(
+    rt: &R,
+    alloc: Global,
+    desk: FileDesk,
+    folder: MemFolder,
+    dir: Text,
+    mut one: FileViewer,
+    mut two: FileViewer,
+) -> bool
+    requires desk { desk.book ≡ J.desk }
+    requires viewer { one.book ≡ J.desk }
+{
+    let back: Back<MemFolder, OneFile, Told<OneFile>, J> = Back::new(desk, folder, dir);
+    let office = Office::new(back);
+    let mut clerk = OfficeClerk::new(&office);
+    let mut good = true;
+    for _ in 0..6u8 {
+        let seen = one.number();
+        let next = seen.wrapping_add(1);
+        match clerk.answer(alloc, rt, &mut one, seen) {
+            Ok(_) => good &= one.number() == next,
+            Err(Memory) => good &= one.number() == seen || one.number() == next,
+        }
+        good &= two.current() == one.number();
+    }
+    let _folder = office.close(rt);
+    good
+}
+
+#[test]
+fn a_viewer_has_seen_what_was_published(rt: HostRuntime) -> Result<(), Fail> {
+    let folder = folder(rt.alloc(), 1, 0)?;
+    let dir = Text::copy_of(rt.alloc(), "site")?;
+    let first = first_set(rt.alloc())?;
+    let mut desk: FileDesk = Desk::open(rt.alloc(), &rt, first)?;
+    let (Ok(one), Ok(two)) = (desk.seat(), desk.seat()) else {
+        desk.close(&rt);
+        return Ok(());
+    };
+    let good = reload_short::<Brand, HostRuntime>(&rt, rt.alloc(), desk, folder, dir, one, two);
+    assert!(rt; good);
+    Ok(())
+}
