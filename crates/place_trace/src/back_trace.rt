@@ -48,7 +48,7 @@ struct BackEnd {
 
 // What a step back comes to.
 #[derive(Clone, Copy, Debug)]
-enum Back {
+enum BackStep {
     // A further point.
     At,
     // The end of a template, of which the edge of this number is the call.
@@ -120,7 +120,12 @@ impl BackTrace {
 
     // Goes back along an edge at whose end the back trace stands, given the place that came along it from its start: into a call through
     // the end of its template. Fails only if allocation fails.
-    fn back_through(&mut self, flows: &Flows, edge: u32, source: Place) -> Result<Back, Memory> {
+    fn back_through(
+        &mut self,
+        flows: &Flows,
+        edge: u32,
+        source: Place,
+    ) -> Result<BackStep, Memory> {
         let at = self.at;
         if flows.is_call(at.template, edge as usize) {
             return self.back_into(flows, edge, source);
@@ -137,9 +142,9 @@ impl BackTrace {
                     ..at
                 };
                 self.back_to(at, edge)?;
-                Ok(Back::At)
+                Ok(BackStep::At)
             }
-            None => Ok(Back::Nowhere),
+            None => Ok(BackStep::Nowhere),
         }
     }
 
@@ -156,7 +161,7 @@ impl BackTrace {
     }
 
     // Goes back into a call, through the end of the template that it calls.
-    fn back_into(&mut self, flows: &Flows, edge: u32, source: Place) -> Result<Back, Memory> {
+    fn back_into(&mut self, flows: &Flows, edge: u32, source: Place) -> Result<BackStep, Memory> {
         let at = self.at;
         match transfer(flows, at.template, edge as usize, source) {
             EdgeStep::Enters(template, entry) => {
@@ -179,14 +184,14 @@ impl BackTrace {
                     point: Point::Finish,
                     member: at.member,
                 };
-                Ok(Back::Entered(edge))
+                Ok(BackStep::Entered(edge))
             }
-            _ => Ok(Back::Nowhere),
+            _ => Ok(BackStep::Nowhere),
         }
     }
 
     // Goes back out of a template at its start, to the start of the edge that calls it.
-    fn back_out(&mut self, flows: &Flows, call: BackCall) -> Result<Back, Memory> {
+    fn back_out(&mut self, flows: &Flows, call: BackCall) -> Result<BackStep, Memory> {
         match flows.ends(call.template, call.edge as usize) {
             Some((from, _)) => {
                 let at = Standing {
@@ -196,9 +201,9 @@ impl BackTrace {
                     member: self.at.member,
                 };
                 self.back_to(at, call.edge)?;
-                Ok(Back::Left(call))
+                Ok(BackStep::Left(call))
             }
-            None => Ok(Back::Nowhere),
+            None => Ok(BackStep::Nowhere),
         }
     }
 
@@ -209,7 +214,7 @@ impl BackTrace {
     }
 
     // Goes back as a derivation came. A template into which the back trace went through its end is left by the call through which it went.
-    fn back(&mut self, flows: &Flows, derivation: Derivation) -> Result<Back, Memory> {
+    fn back(&mut self, flows: &Flows, derivation: Derivation) -> Result<BackStep, Memory> {
         if let DerivedFrom::Along(edge) = derivation.from {
             return self.back_through(flows, edge, derivation.source);
         }
@@ -224,16 +229,16 @@ impl BackTrace {
                 };
                 self.back_out(flows, call)
             }
-            _ => Ok(Back::Start(derivation.template)),
+            _ => Ok(BackStep::Start(derivation.template)),
         }
     }
 
     // One step back.
-    fn step_back(&mut self, flows: &Flows, derivations: &Derivations) -> Result<Back, Memory> {
+    fn step_back(&mut self, flows: &Flows, derivations: &Derivations) -> Result<BackStep, Memory> {
         let at = self.at;
         match derivations.oldest(at.template, at.entry, at.point, at.member) {
             Some(derivation) => self.back(flows, derivation),
-            None => Ok(Back::Nowhere),
+            None => Ok(BackStep::Nowhere),
         }
     }
 
@@ -293,11 +298,11 @@ impl BackTrace {
         let mut ways = BackWays::new(alloc, flows.forest().count())?;
         for _step in 0..MOST_STEPS {
             match self.step_back(flows, derivations)? {
-                Back::At => {}
-                Back::Entered(edge) => self.skip(flows, &ways, edge)?,
-                Back::Left(call) => self.keep(&mut ways, call)?,
-                Back::Start(root) => return Ok(Some(candidate_of(root, self.steps))),
-                Back::Nowhere => return Ok(None),
+                BackStep::At => {}
+                BackStep::Entered(edge) => self.skip(flows, &ways, edge)?,
+                BackStep::Left(call) => self.keep(&mut ways, call)?,
+                BackStep::Start(root) => return Ok(Some(candidate_of(root, self.steps))),
+                BackStep::Nowhere => return Ok(None),
             }
         }
         Err(Memory)
@@ -318,9 +323,9 @@ fn is_choice(flows: &Flows, template: u32, edge: u32) -> bool {
 }
 
 // Whether a step back went, and not to the start of a root.
-fn went(back: Back) -> bool {
+fn went(back: BackStep) -> bool {
     match back {
-        Back::Start(_) | Back::Nowhere => false,
+        BackStep::Start(_) | BackStep::Nowhere => false,
         _ => true,
     }
 }
