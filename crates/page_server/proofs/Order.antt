@@ -87,7 +87,8 @@ closes_push (t ∷ []) s h = (stays_open t.close h, refl)
 closes_push (t ∷ u ∷ ss) s h = (h.0, closes_push (u ∷ ss) s h.1)
 
 module _ {V : Type 0} (execution : V → Executions) (made_of : V → Files) (meant : Files → Meanings) (sound : Files → Promises) where
-  set_number : (set : V) (r : Request) (n : ℕ) (reply : Reply) → AnswersBySet execution made_of meant sound set r n reply → reply.number ≡ n
+  pub set_number : (set : V) (r : Request) (n : ℕ) (reply : Reply) → AnswersBySet execution made_of meant sound set r n reply
+      → reply.number ≡ n
   set_number set r n reply (inl p) =
       ap (λ (z : Reply). z.number) p.page.reply_is
       ∙ ending_number (execution set p.page.name p.page.datum).ending (execution set p.page.name p.page.datum).bytes n

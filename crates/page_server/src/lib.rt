@@ -11,6 +11,8 @@ mod outgoing;
 mod respond;
 mod send;
 mod serve;
+#[cfg(test)]
+mod tests;
 mod turn;
 
 pub use end::{LinkEnd, LinkWhy};
