@@ -41,6 +41,8 @@ pub fn input_of(alloc: Global, input: Input, size: usize) -> Result<String, Allo
         Input::Values => nests(alloc, VALUES, size),
         Input::Heads => heads(alloc, size),
         Input::Body => body(alloc, size),
+        Input::PageRequests => repeated(alloc, "", PAGE_REQUEST, "", size),
+        Input::SmallPages => repeated(alloc, "", "<p>{{.q}}</p>", "", size),
         Input::One | Input::Four => Ok(String::new(alloc)),
     }
 }
@@ -66,6 +68,9 @@ const SCRIPT: &str = "<p onclick=\"f({{.w}}, '{{.v}}', /{{.v}}/)\">{{.v}}</p>\n"
 // An element `script` with three values: a number in its code, and a text in a string and in a regular expression.
 const SCRIPT_ELEMENT: &str =
     "<script>var w = {{.w}}; f('{{.v}}', /{{.v}}/); // a comment\n</script>\n";
+
+// A request for a small page.
+const PAGE_REQUEST: &str = "GET /p/file?q=b HTTP/1.1\r\nHost: www.example.org\r\n\r\n";
 
 // A section of a page with a hole.
 const PAGE_HOLE: &str = "<p>{{.v}}</p>\n";

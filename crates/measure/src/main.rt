@@ -11,6 +11,7 @@ mod counter;
 mod forest;
 mod inference;
 mod input;
+mod link;
 mod locks;
 mod looks;
 mod nests;
@@ -23,6 +24,7 @@ mod whole_page;
 use crate::counter::executed_counted;
 use crate::inference::{pairs_counted, templates_counted};
 use crate::input::input_of;
+use crate::link::link_counted;
 use crate::locks::{four_lock, one_locks};
 use crate::looks::{four_look, one_looks};
 use crate::request::{Input, Measured, Measurement, most, size_named, words_named};
@@ -75,7 +77,9 @@ fn main(rt: HostRuntime) -> ExitCode {
                 "      page-scripts page-script-elements pages-scripts pages-script-elements"
             );
             let _ = eprintln!(&rt; "      page-variables page-dropped page-names page-slices");
-            let _ = eprintln!(&rt; "      requests-heads requests-body");
+            let _ = eprintln!(&rt;
+                "      requests-heads requests-body link-pages page-small pages-small"
+            );
             let _ = eprintln!(&rt; "      looks-1 looks-4 locks-1 locks-4");
             return ExitCode::from(2);
         }
@@ -169,6 +173,7 @@ fn counted<R: Threads + Wait + Sync>(
             1,
         ),
         Measured::Requests => requests_counted(alloc, text.as_str()),
+        Measured::Link => link_counted(rt, alloc, text.as_str()),
         Measured::Looks if input == Input::One => one_looks(rt, alloc, size),
         Measured::Looks => four_look(rt, alloc, size),
         Measured::Locks if input == Input::One => one_locks(rt, alloc, size),

@@ -47,6 +47,8 @@ pub enum Measured {
     Slices,
     /// It is read as requests, one after another, and each is answered by the number of a set.
     Requests,
+    /// It is the bytes of a link, on which requests for a small page are answered.
+    Link,
     /// Viewers look at a desk that publishes sets, each as often as the input may have bytes.
     Looks,
     /// The same, but the set is behind a lock.
@@ -113,6 +115,10 @@ pub enum Input {
     Heads,
     /// A request with a body that takes almost all bytes.
     Body,
+    /// Requests for a small page, again and again.
+    PageRequests,
+    /// Small pages, each with one hole.
+    SmallPages,
     /// Nothing; one thread looks.
     One,
     /// Nothing; four threads look.
@@ -190,6 +196,9 @@ pub fn words_named(word: &str) -> Option<(Measured, Input)> {
         "pages-text" => Some((Measured::Pages, Input::Text)),
         "requests-heads" => Some((Measured::Requests, Input::Heads)),
         "requests-body" => Some((Measured::Requests, Input::Body)),
+        "link-pages" => Some((Measured::Link, Input::PageRequests)),
+        "page-small" => Some((Measured::Page, Input::SmallPages)),
+        "pages-small" => Some((Measured::Pages, Input::SmallPages)),
         "looks-1" => Some((Measured::Looks, Input::One)),
         "looks-4" => Some((Measured::Looks, Input::Four)),
         "locks-1" => Some((Measured::Locks, Input::One)),
@@ -211,6 +220,7 @@ pub fn most(call: Measured) -> usize
         | Measured::Names
         | Measured::Slices
         | Measured::Requests
+        | Measured::Link
         | Measured::Looks
         | Measured::Locks => MAX_LENGTH,
         Measured::Tokens

@@ -43,12 +43,13 @@ pub fn data_of(input: Input) -> &'static str {
         Input::Links => "{\"v\":\"a b\",\"w\":\"c&d\"}",
         Input::Styles | Input::StyleElements => "{\"v\":\"#1a2b3c\",\"w\":120}",
         Input::Scripts | Input::ScriptElements => "{\"v\":\"a'b/c\",\"w\":120}",
+        Input::SmallPages => "{\"q\":\"b\"}",
         _ => "null",
     }
 }
 
-// A set of one file, which is a root.
-fn one_file(alloc: Global, template: &str) -> Result<Files, Memory> {
+/// A set of one file, `NAME`, which is a root.
+pub fn one_file(alloc: Global, template: &str) -> Result<Files, Memory> {
     let mut list = List::new(alloc);
     list.push(NamedFile {
         name: Text::copy_of(alloc, NAME)?,

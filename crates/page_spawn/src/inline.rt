@@ -55,7 +55,5 @@ impl<R: Threads + Wait + Sync> Spawner for InlineSpawner<R> {
         None
     }
 
-    fn count_fault(&mut self) {
-        unreachable!()
-    }
+    fn count_fault(&mut self) {}
 }

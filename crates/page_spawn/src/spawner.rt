@@ -43,12 +43,12 @@ pub trait Spawner {
     fn runtime(&self) -> Option<&Self::Runtime>
         ensures { IsSome result → failing self.now ≡ untold };
 
-    /// Counts that a thread could not be started.
+    /// Counts that a thread could not be started. A spawner that tells which calls fail starts
+    /// none, and has nothing to count.
     fn count_fault(&mut self)
-        requires { failing self.old ≡ untold }
         ensures kept { failing self.new ≡ failing self.old }
         ensures later { faults self.old ≤ faults self.new }
-        ensures rose { Rose (faults self.old) (faults self.new) };
+        ensures rose { failing self.old ≡ untold → Rose (faults self.old) (faults self.new) };
 
     /// Runs each worker once, and gives their ends in the order of the workers, once all have
     /// ended. Or gives all workers back in their order, none of which has run: `Failed` where the

@@ -43,7 +43,5 @@ impl<R: Threads + Wait + Sync> Spawner for SureSpawner<R> {
         None
     }
 
-    fn count_fault(&mut self) {
-        unreachable!()
-    }
+    fn count_fault(&mut self) {}
 }
