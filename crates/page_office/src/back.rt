@@ -66,19 +66,6 @@ impl<J: Named> Verdict<J> {
     }
 }
 
-// What `Back::answer` answers with this reply.
-fn verdict_of<J: Named>(reply: Result<Reply, Memory>) -> Result<Verdict<J>, Memory>
-    ensures { result ≡ reply }
-{
-    match reply {
-        Ok(reply) => Ok(Verdict {
-            reply,
-            of: PhantomData,
-        }),
-        Err(Memory) => Err(Memory),
-    }
-}
-
 // Makes a set of the template files of a directory as they are now.
 fn make_set<F: Folder, P: Pages>(
     alloc: Global,
@@ -173,7 +160,13 @@ impl<F: Folder, P: Pages + Drop, S: Notice<P>, J: Named> Back<F, P, S, J> {
         ensures sendable { IfOk result IsSendable }
     {
         let done = self.reload(alloc, rt);
-        verdict_of(reply_to_reload(alloc, done, viewer, number))
+        match reply_to_reload(alloc, done, viewer, number) {
+            Ok(reply) => Ok(Verdict {
+                reply,
+                of: PhantomData,
+            }),
+            Err(Memory) => Err(Memory),
+        }
     }
 
     /// Ends the desk, and gives the folder back. It may wait for viewers that are just looking.
