@@ -1,5 +1,5 @@
 -- What the definitions allow on small values, and what they do not.
-use Rattle.std.proofs.Common.{ℕ, ◌≡◌, ◌≢◌, inl, inr, Bool, true, false, List, [], ◌∷◌, length, Option, arith, refl, sym, ◌∙◌, ap}
+use Rattle.std.proofs.Common.{ℕ, ◌≡◌, inl, inr, Bool, true, false, List, [], ◌∷◌, length, Option, arith, refl, ap}
 use Rattle.page_datum.specs.declared.files.Files.{Files}
 use Rattle.page_http.specs.Answers.{Executions, Meanings, Promises}
 use Rattle.page_http.specs.Pages.{number_reply}

@@ -1,6 +1,6 @@
 -- The replies that a clerk gave, and the bytes and the number of replies, with one more.
-use Rattle.std.proofs.Common.{ℕ, ◌≡◌, ◌+◌, List, [], ◌∷◌, ◌++◌, length, Option, None, Some, refl, sym, ap, ◌∙◌, append-nil}
-use Rattle.std.proofs.Common.{append_assoc, length-append}
+use Rattle.std.proofs.Common.{ℕ, ◌≡◌, ◌+◌, List, [], ◌∷◌, ◌++◌, Option, None, Some, refl, sym, ap, ◌∙◌, append-nil}
+use Rattle.std.proofs.Common.{append_assoc}
 use Rattle.page_http.specs.declared.reply.Reply.{Reply}
 use Rattle.page_server.specs.Sending.{SentReply, sent_text, sent_texts, number_after}
 use Rattle.page_server.specs.Sessions.{with_given}

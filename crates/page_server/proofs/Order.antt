@@ -1,20 +1,19 @@
 -- The replies of a link are in order.
-use Rattle.std.proofs.Common.{ℕ, ◌≡◌, ◌+◌, ◌<◌, ◌≤◌, ◌⊎◌, inl, inr, Bool, true, false, not, List, [], ◌∷◌, ◌++◌, length, arith, rules}
+use Rattle.std.proofs.Common.{ℕ, ◌≡◌, ◌+◌, ◌<◌, ◌≤◌, inl, inr, Bool, true, false, not, List, [], ◌∷◌, ◌++◌, length, arith, rules}
 use Rattle.std.proofs.Common.{refl, sym, ap, subst, ◌∙◌, length-append, append_assoc, append-nil}
 use mathlib.Core.List.{IsPrefix}
-use Rattle.page_datum.specs.Data.{Data}
-use Rattle.page_datum.specs.Execution.{Execution, Ending, done, no_root, faulted}
+use Rattle.page_datum.specs.Execution.{Ending, done, no_root, faulted}
 use Rattle.page_datum.specs.declared.files.Files.{Files}
 use Rattle.page_http.specs.Answers.{Executions, Meanings, Promises}
 use Rattle.page_http.specs.Asks.{Asked, refused, by_number, by_reload, by_form, by_json, IsRefusedWith, plan_of}
-use Rattle.page_http.specs.Pages.{page_reply, ending_reply, number_reply}
+use Rattle.page_http.specs.Pages.{ending_reply, number_reply}
 use Rattle.page_http.specs.Refusals.{refusal_reply}
 use Rattle.page_http.specs.declared.reply.Reply.{Reply}
 use Rattle.page_http.specs.declared.request.Request.{Request}
 use Rattle.page_office.specs.Clerks.{IsReloadRefusal}
 use Rattle.set_publisher.specs.Values.{Watched}
 use Rattle.page_server.specs.Answering.{Answering, AnswersBySet}
-use Rattle.page_server.specs.Laws.{NumbersRise, ClosesAtEnd, AreServedInOrder, RepliesAreInOrder}
+use Rattle.page_server.specs.Laws.{NumbersRise, ClosesAtEnd, RepliesAreInOrder}
 use Rattle.page_server.specs.Sending.{SentReply, number_after, is_last}
 use Rattle.page_server.specs.Serving as serving
 use Rattle.page_server.specs.Serving.{Answered, Serves, begun, replied}

@@ -1,9 +1,9 @@
 -- A request for a page that is done is answered with it.
-use Rattle.std.proofs.Common.{ℕ, ◌≡◌, ◌⊎◌, inl, inr, Bool, List, length, Some, refl, sym, ap, subst, ◌∙◌}
+use Rattle.std.proofs.Common.{ℕ, ◌≡◌, inl, inr, List, length, Some, refl, sym, ap, subst, ◌∙◌}
 use Rattle.page_datum.specs.Data.{Data}
 use Rattle.page_datum.specs.Execution.{Ending, done}
 use Rattle.page_datum.specs.declared.files.Files.{Files}
-use Rattle.page_http.specs.Answers.{Executions, Meanings, Promises, IsReplyTo, IsSoundPageReply, IsOtherReply}
+use Rattle.page_http.specs.Answers.{Executions, Meanings, Promises, IsReplyTo}
 use Rattle.page_http.specs.Asks.{AsksPage, plan_of, by_reload}
 use Rattle.page_http.specs.Pages.{page_reply, ending_reply, done_reply}
 use Rattle.page_http.specs.declared.reply.Reply.{Reply}
@@ -13,8 +13,7 @@ use Rattle.page_http.proofs.OneReply.{have_one_reply}
 use Rattle.set_publisher.specs.Values.{Watched, IsPublishedSetOf}
 use Rattle.page_server.specs.Answering.{AnswersBySet, IsRequest}
 use Rattle.page_server.specs.Laws.{AsksForPage, PagesAreAnswered}
-use Rattle.page_server.specs.Sending.{SentReply}
-use Rattle.page_server.specs.Serving.{Answered, by_set, by_clerk, refused, no_memory, no_memory_to_send}
+use Rattle.page_server.specs.Serving.{by_set, by_clerk, refused, no_memory, no_memory_to_send}
 
 one_request : (piece : List ℕ) (r q : Request) → IsRequest piece r → IsRequest piece q → r ≡ q
 one_request piece r q a b = ((excluding piece).one_whole r q (length piece) (length piece) a.0 b.0 a.1 b.1).0

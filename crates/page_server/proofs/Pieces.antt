@@ -2,7 +2,7 @@
 use Rattle.std.proofs.Common.{ℕ, ◌≡◌, ◌+◌, ◌≤◌, List, ◌++◌, length, take, drop, arith, refl, sym, ap, subst, ◌∙◌, take-append-drop}
 use Rattle.std.proofs.lemmas.List.{length-take-le, take-take, take_at, take_all, drop-take}
 use Rattle.httparse.specs.Grammar.{RequestHead, print_request}
-use Rattle.page_http.specs.Requests.{front, BeginsWith, IsWhole, Refuses}
+use Rattle.page_http.specs.Requests.{front, BeginsWith, Refuses}
 use Rattle.page_http.specs.declared.request.Request.{Request}
 use Rattle.page_server.specs.Answering.{BeginsWithRequest, IsRequest}
 use Rattle.page_server.proofs.Lengths.{head_within}

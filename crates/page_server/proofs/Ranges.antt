@@ -1,6 +1,6 @@
 -- Parts of a room that is read into.
-use Rattle.std.proofs.Common.{ℕ, ◌≡◌, ◌+◌, ◌-◌, ◌≤◌, ◌<◌, List, [], ◌++◌, length, take, drop, slice_range, replicate, Option, arith, ap}
-use Rattle.std.proofs.Common.{sym, ◌∙◌, subst, refl, length-append, append-nil, append_assoc}
+use Rattle.std.proofs.Common.{ℕ, ◌≡◌, ◌+◌, ◌-◌, ◌≤◌, List, [], ◌++◌, length, take, drop, slice_range, Option, arith, ap}
+use Rattle.std.proofs.Common.{sym, ◌∙◌, subst, append-nil, append_assoc}
 use Rattle.std.proofs.lemmas.List.{drop-take, drop-drop, take_at, take_all, take-append-le, length-take}
 use Rattle.std.proofs.Math.Seq.{take-add}
 use Rattle.std.specs.Io.KnownBytes.{Consumes}

@@ -1,5 +1,5 @@
 -- What goes out to the first bytes held.
-use Rattle.std.proofs.Common.{ℕ, ◌≡◌, ◌≢◌, ◌<◌, ◌≤◌, ◌⊎◌, inl, inr, Bool, true, ◌||◌, List, [], ◌∷◌, length, take, Option, Result, Ok}
+use Rattle.std.proofs.Common.{ℕ, ◌≡◌, ◌≢◌, inl, inr, Bool, true, ◌||◌, List, [], ◌∷◌, length, take, Option, Result, Ok}
 use Rattle.std.proofs.Common.{Err, IfOk, arith, refl, sym, ap, subst, ◌∙◌, append-nil}
 use Rattle.std.proofs.lemmas.List.{take_all}
 use Rattle.page_io.specs.declared.stop.Memory.{Memory}
@@ -11,7 +11,6 @@ use Rattle.page_http.specs.declared.request.Request.{Request}
 use Rattle.set_publisher.specs.Values.{Watched, IsPublishedSetOf}
 use Rattle.page_server.specs.Answering.{Answering, BeginsWithRequest}
 use Rattle.page_server.specs.Serving.{Answered, sent, by_set, by_clerk, refused, no_memory, no_memory_to_send}
-use Rattle.page_server.specs.Sessions.{with_given}
 use Rattle.page_server.specs.Turns.{IsBySet, AnswersOnce, Responds}
 use Rattle.page_server.specs.Viewing.{MayHaveLearnt}
 use Rattle.page_server.specs.declared.outgoing.Outgoing.{Outgoing}

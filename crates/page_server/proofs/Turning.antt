@@ -1,11 +1,10 @@
 -- A turn more, and the end.
-use Rattle.std.proofs.Common.{ℕ, ◌≡◌, ◌≢◌, ◌+◌, ◌<◌, ◌≤◌, ◌⊎◌, ◌==◌, inl, inr, Bool, true, false, not, ◌||◌, List, [], ◌∷◌, ◌++◌}
+use Rattle.std.proofs.Common.{ℕ, ◌≡◌, ◌+◌, ◌<◌, inl, inr, Bool, true, false, not, ◌||◌, List, [], ◌∷◌, ◌++◌}
 use Rattle.std.proofs.Common.{length, take, drop, Option, Result, Ok, Err, IfOk, if◌then◌else◌, arith, refl, sym, ap, subst, ◌∙◌}
-use Rattle.std.proofs.Common.{append-nil, append_assoc, length-append, take-append-drop}
+use Rattle.std.proofs.Common.{append_assoc, length-append, take-append-drop}
 use Rattle.std.proofs.KnownBytes.{Appends-nil, Consumes-nil}
 use Rattle.std.proofs.lemmas.Bool.Decides.{nat_tests}
 use Rattle.std.specs.Io.KnownBytes.{Appends, Consumes}
-use mathlib.Core.List.{IsPrefix}
 use Rattle.page_io.proofs.Known.{Appends-twice, Consumes-twice}
 use Rattle.page_io.specs.declared.stop.Memory.{Memory}
 use Rattle.page_http.specs.Replies.{unavailable}
@@ -13,12 +12,12 @@ use Rattle.page_http.specs.declared.reply.Reply.{Reply}
 use Rattle.set_publisher.specs.Values.{Watched}
 use Rattle.page_server.specs.Answering.{Answering}
 use Rattle.page_server.specs.Buffers.{IsReadBehind}
-use Rattle.page_server.specs.Sending.{SentReply, sent_text, sent_texts, number_after, is_last}
+use Rattle.page_server.specs.Sending.{SentReply, sent_text, sent_texts, is_last}
 use Rattle.page_server.specs.Serving.{Answered, Serves, sent, begun, replied, by_set, by_clerk, refused, no_memory, no_memory_to_send}
 use Rattle.page_server.specs.Sessions.{Session, session, with_given, IsSettled, IsCutOff, EndsBy, ServesLink}
-use Rattle.page_server.specs.Turns.{IsReplyWritten, IsWrittenWhole, IsSent, IsOutgoingSent, IsRead, ReadsAndStops, LooksAndResponds}
+use Rattle.page_server.specs.Turns.{IsWrittenWhole, IsSent, IsOutgoingSent, IsRead, LooksAndResponds}
 use Rattle.page_server.specs.Turns.{AnswersPiece, ReadsAndAnswers, TurnAnswers, HasServed}
-use Rattle.page_server.specs.Viewing.{HasLooked, MayHaveLearnt}
+use Rattle.page_server.specs.Viewing.{HasLooked}
 use Rattle.page_server.specs.Waiting.{StopsReading}
 use Rattle.page_server.specs.declared.end.LinkEnd.{LinkEnd}
 use Rattle.page_server.specs.declared.end.LinkWhy.{LinkWhy}

@@ -9,7 +9,7 @@ use Rattle.page_http.specs.declared.request.Request.{Request}
 use Rattle.page_office.specs.Clerks.{IsReloadReply}
 use Rattle.set_publisher.specs.Values.{Watched, IsPublishedSetOf}
 use Rattle.page_server.specs.Answering.{Answering, IsRequest}
-use Rattle.page_server.specs.Sending.{SentReply, sent_texts, is_last}
+use Rattle.page_server.specs.Sending.{SentReply, is_last}
 use Rattle.page_server.specs.Viewing.{HasLooked, MayHaveLearnt}
 
 -- a reply as it is sent

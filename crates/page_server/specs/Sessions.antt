@@ -1,5 +1,5 @@
 -- What is told of a link, its clerk and its viewer, at one moment.
-use Rattle.std.specs.Prelude.{◌≡◌, ◌<◌, ◌⊎◌, ℕ, Bool, true, false, List, [], ◌++◌, length, take, Option, option_map}
+use Rattle.std.specs.Prelude.{◌≡◌, ◌<◌, ◌⊎◌, ℕ, Bool, true, false, List, ◌++◌, length, take, Option, option_map}
 use Rattle.std.specs.Io.KnownBytes.{Appends, Consumes}
 use Rattle.page_http.specs.declared.reply.Reply.{Reply}
 use Rattle.set_publisher.specs.Values.{Watched}

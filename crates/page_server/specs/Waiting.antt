@@ -1,5 +1,5 @@
 -- What stands at the front of the bytes that were read.
-use Rattle.std.specs.Prelude.{◌≡◌, ◌≢◌, ◌⊎◌, ℕ, List, [], length, Option}
+use Rattle.std.specs.Prelude.{◌≡◌, ◌≢◌, ◌⊎◌, ℕ, List, [], Option}
 use Rattle.std.specs.Io.KnownBytes.{IsAtEnd}
 use Rattle.page_http.specs.Bodies.{IsReadStatus}
 use Rattle.page_http.specs.Requests.{IsMore, Refuses}
