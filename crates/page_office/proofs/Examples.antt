@@ -1,5 +1,6 @@
 -- What the definitions say, and what they do not allow.
-use Rattle.std.proofs.Common.{◌≡◌, ℕ, Bool, false, List, [], ◌∷◌, ◌++◌, length, codes, refl, ap, subst, Option, Some, None, Result, Ok, Err, IsErr, length-append, arith}
+use Rattle.std.proofs.Common.{◌≡◌, ℕ, Bool, false, List, [], ◌∷◌, ◌++◌, length, codes, refl, ap, subst, Option, Some, None}
+use Rattle.std.proofs.Common.{Result, Ok, Err, IsErr, length-append, arith}
 use Rattle.std.specs.Arc.{arc_value}
 use Rattle.page_io.specs.Causes.{Rose}
 use Rattle.page_io.specs.FolderContents.{FolderContents}
@@ -62,7 +63,8 @@ module _ {V F E : Type 0}
   published_nothing : (old now : BackOffice V F) (told : Told V)
       → reloads old now (Ok told) → now.desk ≡ old.desk → ⊥
   published_nothing old now told a same =
-      let longer : length now.desk.sets ≡ length (old.desk.sets ++ arc_value told.set ∷ []) = ap (λ (sets : List V). length sets) a.0.appended in
+      let longer : length now.desk.sets ≡ length (old.desk.sets ++ arc_value told.set ∷ []) =
+      ap (λ (sets : List V). length sets) a.0.appended in
       let kept : length now.desk.sets ≡ length old.desk.sets = ap (λ (desk : Published V). length desk.sets) same in
       omega (arith, longer, kept, length-append old.desk.sets (arc_value told.set ∷ []))
 

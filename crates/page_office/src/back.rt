@@ -134,13 +134,13 @@ impl<F: Folder, P: Pages + Drop, S: Notice<P>, J: Named> Back<F, P, S, J> {
         }
     }
 
-    /// Answers a reload that a client of this viewer asked for: reloads, and has the viewer learn of
-    /// the set that was published. It may wait for viewers that are just looking.
+    /// Answers a reload that a client of this viewer asked for: reloads, and has the viewer learn
+    /// of the set that was published. It may wait for viewers that are just looking.
     ///
     /// The reply is 200 with the number of the last set that the viewer has seen then; or, with the
     /// number that was handed in, 422 with the lines of a refusal, or 500 where the folder failed.
-    /// The error is out of memory: the list of sets is then as before, or has one more set, of which
-    /// the viewer has learnt.
+    /// The error is out of memory: the list of sets is then as before, or has one more set, of
+    /// which the viewer has learnt.
     pub fn answer<R: Wait>(
         &mut self,
         alloc: Global,

@@ -271,8 +271,8 @@ fn broken_sets_change_nothing(rt: HostRuntime) -> Result<(), Fail> {
     Ok(())
 }
 
-// Asks for reloads of a good set, one after another, and says whether each is answered with a number
-// that is more than the one before.
+// Asks for reloads of a good set, one after another, and says whether each is answered with a
+// number that is more than the one before.
 fn reload_often<C: Clerk<OneFile, Told<OneFile>, J>, J: Named, R: Wait>(
     rt: &R,
     alloc: Global,
