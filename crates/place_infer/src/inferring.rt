@@ -98,8 +98,8 @@ fn judged(
 /// - `Memory`: out of memory.
 ///
 /// Takes time in proportion to the texts of the pairs that are made, times the logarithm of the controls of a template. Where an error is
-/// shown, the pairs are made twice, and then the paths that show it are gone edge by edge; a template in which nothing is chosen is gone
-/// once for each context in which it is called.
+/// shown, the pairs are made twice, and then the paths that show it are gone choice by choice; a stretch of a template on which nothing is
+/// chosen is gone once for each context in which it begins.
 pub fn infer(alloc: Global, forest: &Forest, roots: &Names) -> Result<Chart, SetRefused>
     ensures answers { Infers forest.now roots.now result }
     // A refusal for another cause than its pairs and want of memory needs an error on a path.

@@ -1,5 +1,5 @@
--- Two paths that stand in one template take the edge of one number: by what it is, they go on in step.
-use Rattle.std.proofs.Common.{◌≡◌, ℕ, Bool, true, false, List, Option, Some, None, Result, Ok, Err, length, sym, ap, ◌∙◌, subst}
+-- Two paths that stand in one template take the edge of one number: by what it is, they go on as ones that met apart.
+use Rattle.std.proofs.Common.{◌≡◌, ℕ, Bool, true, false, List, Option, Some, None, Result, Ok, Err, IfSome, length, sym, ap, ◌∙◌, subst}
 use Rattle.std.specs.Option.{option_map}
 use Rattle.std.specs.Prelude.{slice_get}
 use Rattle.page_io.specs.declared.stop.Memory.{Memory}
@@ -11,7 +11,8 @@ use Rattle.place_flow.specs.FlowViews.{IsNodeNumber}
 use Rattle.place_flow.specs.Flows.{edges_at, nodes_at}
 use Rattle.place_show.specs.LastApart.{IsFoundIn}
 use Rattle.place_show.specs.Showings.{shown_state}
-use Rattle.place_show.specs.Together.{BothWent, IsFoundOn, IsQuiet, LastPlaces, PassMove, PassedNode, StepTogether, WritesNode}
+use Rattle.place_show.specs.Together.{BothWent, IsFoundOn, IsPassedEdge, IsQuiet, LastPlaces, PassMove, PassedNode, StepTogether, WritesNode}
+use Rattle.place_core.specs.declared.place.Place.{Place}
 use Rattle.place_show.specs.Unknown.{PassText}
 use Rattle.place_trace.specs.Replays.{GoesAlong, WentAlong}
 use Rattle.place_trace.specs.declared.replay.PathReplay.{PathReplay}
@@ -75,15 +76,8 @@ quiet-found (calls m name to) s r h = tt
 quiet-found (picks from choice to) s r h = tt
 quiet-found (passes from to) s r h = tt
 
-pub quiet-step : (forest : ForestData) (w v w1 v1 : PathReplay) (e : Edge) → IsQuiet e → GoesAlong forest w w1 (along e) → GoesAlong forest v v1 (along e)
-    → StepTogether true forest w v w1 v1 None
-quiet-step forest w v w1 v1 e h g k = record {
-  move = along e;
-  goes = g;
-  other_goes = k;
-  passes_on = λ is js. quiet-passes e (shown_state is) (shown_state js) h;
-  last = λ is js. quiet-found e (shown_state is) (shown_state js) h;
-}
+pub quiet-passed : (e : Edge) (x y : Place) → IsQuiet e → IsPassedEdge true e x y None
+quiet-passed e x y h s r own other = (quiet-passes e s r h, quiet-found e s r h)
 
 -- on an edge that writes the text of a node
 text-passes : (apart : Bool) (n : ℕ) (bytes : List ℕ) (to : Point) (s r : LexState ValueState) → PassText apart bytes s r → PassMove apart (along (writes n bytes to)) s r
@@ -97,33 +91,33 @@ text-found n bytes to s r (Some x) h = h
 one-text : (bytes text : List ℕ) (o : Option NodeKind) → o ≡ Some (kind.Text bytes) → o ≡ Some (kind.Text text) → text ≡ bytes
 one-text bytes text o h k = (let same : Some (kind.Text bytes) ≡ Some (kind.Text text) = sym h ∙ k in cc)
 
-module _ (apart : Bool) (forest : ForestData) (w v w1 v1 : PathReplay) (found : LastPlaces) where
-  written : (n m : ℕ) (bytes : List ℕ) (to : Point) → IsNodeNumber (nodes_at forest w.template) (writes m bytes to) → m ≡ n → PassedNode apart forest w.template n w.place v.place found
-      → GoesAlong forest w w1 (along (writes m bytes to)) → GoesAlong forest v v1 (along (writes m bytes to)) → StepTogether apart forest w v w1 v1 found
-  written n m bytes to number same p g k =
-      let here : head_kind (nodes_from (nodes_at forest w.template) n) ≡ Some (kind.Text bytes) = ap (λ (i : ℕ). head_kind (nodes_from (nodes_at forest w.template) i)) (sym same) ∙ number in
-      let text : p.bytes ≡ bytes = one-text bytes p.bytes (head_kind (nodes_from (nodes_at forest w.template) n)) here p.text in
-      record {
-        move = along (writes m bytes to);
-        goes = g;
-        other_goes = k;
-        passes_on = λ is js. text-passes apart m bytes to (shown_state is) (shown_state js)
-            (subst (λ (x : List ℕ). PassText apart x (shown_state is) (shown_state js)) text (p.passes_on (shown_state is) (shown_state js) (is.own, is.valid) (js.own, js.valid)).0);
-        last = λ is js. text-found m bytes to (shown_state is) (shown_state js) found
-            (subst (λ (x : List ℕ). IsFoundIn (length x) x (shown_state is) (shown_state js) found) text (p.passes_on (shown_state is) (shown_state js) (is.own, is.valid) (js.own, js.valid)).1);
-      }
+module _ (apart : Bool) (forest : ForestData) (t : ℕ) (x y : Place) (found : LastPlaces) where
+  written : (n m : ℕ) (bytes : List ℕ) (to : Point) → IsNodeNumber (nodes_at forest t) (writes m bytes to) → m ≡ n → PassedNode apart forest t n x y found
+      → IsPassedEdge apart (writes m bytes to) x y found
+  written n m bytes to number same p s r own other =
+      let here : head_kind (nodes_from (nodes_at forest t) n) ≡ Some (kind.Text bytes) = ap (λ (i : ℕ). head_kind (nodes_from (nodes_at forest t) i)) (sym same) ∙ number in
+      let text : p.bytes ≡ bytes = one-text bytes p.bytes (head_kind (nodes_from (nodes_at forest t) n)) here p.text in
+      let h = p.passes_on s r own other in (
+        text-passes apart m bytes to s r (subst (λ (b : List ℕ). PassText apart b s r) text h.0),
+        text-found m bytes to s r found (subst (λ (b : List ℕ). IsFoundIn (length b) b s r found) text h.1),
+      )
 
-  on-edge : (n : ℕ) (e : Edge) → WritesNode n e → IsNodeNumber (nodes_at forest w.template) e → PassedNode apart forest w.template n w.place v.place found → GoesAlong forest w w1 (along e)
-      → GoesAlong forest v v1 (along e) → StepTogether apart forest w v w1 v1 found
-  on-edge n (writes m bytes to) h number p g k = written n m bytes to number h p g k
-  on-edge n (fills m pipe to) h number p g k = absurd h
-  on-edge n (calls m name to) h number p g k = absurd h
-  on-edge n (picks from choice to) h number p g k = absurd h
-  on-edge n (passes from to) h number p g k = absurd h
+  on-edge : (n : ℕ) (e : Edge) → WritesNode n e → IsNodeNumber (nodes_at forest t) e → PassedNode apart forest t n x y found → IsPassedEdge apart e x y found
+  on-edge n (writes m bytes to) h number p = written n m bytes to number h p
+  on-edge n (fills m pipe to) h number p = absurd h
+  on-edge n (calls m name to) h number p = absurd h
+  on-edge n (picks from choice to) h number p = absurd h
+  on-edge n (passes from to) h number p = absurd h
 
-  pub text-step : (n number : ℕ) (e : Edge) → slice_get (edges_at forest w.template) number ≡ Some e → WritesNode n e → PassedNode apart forest w.template n w.place v.place found
-      → GoesAlong forest w w1 (along e) → GoesAlong forest v v1 (along e) → StepTogether apart forest w v w1 v1 found
-  text-step n number e at h p g k = on-edge n e h (node-at (nodes_at forest w.template) e (got-within (edges_at forest w.template) number e at)) p g k
+  pub text-passed : (n number : ℕ) (e : Edge) → slice_get (edges_at forest t) number ≡ Some e → WritesNode n e → PassedNode apart forest t n x y found → IsPassedEdge apart e x y found
+  text-passed n number e at h p = on-edge n e h (node-at (nodes_at forest t) e (got-within (edges_at forest t) number e at)) p
+
+-- what the code finds of a text
+pub text-found-by : (apart : Bool) (forest : ForestData) (t n number : ℕ) (x y : Place) (o : Option LastPlaces)
+    → ((e : Edge) → slice_get (edges_at forest t) number ≡ Some e → WritesNode n e) → IfSome o (PassedNode apart forest t n x y)
+    → IfSome o (λ (found : LastPlaces). (e : Edge) → slice_get (edges_at forest t) number ≡ Some e → IsPassedEdge apart e x y found)
+text-found-by apart forest t n number x y (Some found) wrote p = λ e at. text-passed apart forest t x y found n number e at (wrote e at) p
+text-found-by apart forest t n number x y None wrote p = tt
 
 -- both go along the edge of a number
 module _ (forest : ForestData) (number : ℕ) (w v w1 v1 : PathReplay) where
@@ -136,13 +130,13 @@ module _ (forest : ForestData) (number : ℕ) (w v w1 v1 : PathReplay) where
   both-went (Err m) same g h = tt
 
 -- what both come to by it
-pub quiet-both : (forest : ForestData) (number : ℕ) (w v w1 v1 : PathReplay) (b : Bool) → b ≡ true → BothWent forest number w v w1 v1 (Ok b)
-    → ((e : Edge) → slice_get (edges_at forest w.template) number ≡ Some e → IsQuiet e) → StepTogether true forest w v w1 v1 None
-quiet-both forest number w v w1 v1 true same h quiet = quiet-step forest w v w1 v1 h.0 (quiet h.0 h.1) h.2 h.3
-quiet-both forest number w v w1 v1 false same h quiet = cc
-
-pub text-both : (apart : Bool) (forest : ForestData) (number n : ℕ) (w v w1 v1 : PathReplay) (found : LastPlaces) (b : Bool) → b ≡ true → BothWent forest number w v w1 v1 (Ok b)
-    → PassedNode apart forest w.template n w.place v.place found → ((e : Edge) → slice_get (edges_at forest w.template) number ≡ Some e → WritesNode n e)
-    → StepTogether apart forest w v w1 v1 found
-text-both apart forest number n w v w1 v1 found true same h p wrote = text-step apart forest w v w1 v1 found n number h.0 h.1 (wrote h.0 h.1) p h.2 h.3
-text-both apart forest number n w v w1 v1 found false same h p wrote = cc
+pub edge-both : (apart : Bool) (forest : ForestData) (number : ℕ) (w v w1 v1 : PathReplay) (found : LastPlaces) (b : Bool) → b ≡ true → BothWent forest number w v w1 v1 (Ok b)
+    → ((e : Edge) → slice_get (edges_at forest w.template) number ≡ Some e → IsPassedEdge apart e w.place v.place found) → StepTogether apart forest w v w1 v1 found
+edge-both apart forest number w v w1 v1 found true same h passed = record {
+  move = along h.0;
+  goes = h.2;
+  other_goes = h.3;
+  passes_on = λ is js. (passed h.0 h.1 (shown_state is) (shown_state js) (is.own, is.valid) (js.own, js.valid)).0;
+  last = λ is js. (passed h.0 h.1 (shown_state is) (shown_state js) (is.own, is.valid) (js.own, js.valid)).1;
+}
+edge-both apart forest number w v w1 v1 found false same h passed = cc

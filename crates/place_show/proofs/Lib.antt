@@ -3,10 +3,12 @@ pub mod Conflict
 pub mod EdgesTogether
 pub mod Elsewhere
 pub mod ErrorsStand
+pub mod GoingBoth
 pub mod GoingTogether
 pub mod HoleClash
 pub mod HoleRefused
 pub mod LastNodes
+pub mod LeadingTogether
 pub mod Makings
 pub mod Mapped
 pub mod MetShown
@@ -16,6 +18,7 @@ pub mod Named
 pub mod NodeEdges
 pub mod Orders
 pub mod OwnApart
+pub mod PassedMoves
 pub mod TextRefused
 pub mod TextsInBeginnings
 pub mod TurnedApart

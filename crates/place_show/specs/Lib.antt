@@ -10,3 +10,4 @@ pub mod Showings
 pub mod Taking
 pub mod Together
 pub mod Unknown
+pub mod WaysTogether

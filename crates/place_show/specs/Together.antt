@@ -11,7 +11,9 @@ use Rattle.place_show.specs.Answers.{IfFound}
 use Rattle.place_show.specs.Showings.{Meet, ShowsTwo, shown_state}
 use Rattle.place_show.specs.declared.showing.Showing.{Showing}
 use Rattle.place_show.specs.Unknown.{IsOwn, PassText}
-use Rattle.place_trace.specs.Replays.{GoesAlong, IsPathReplay}
+use Rattle.place_flow.specs.Covering.{read_moves}
+use Rattle.place_flow.specs.HtmlCovering.{html_language}
+use Rattle.place_trace.specs.Replays.{GoesAlong, IsPathReplay, IsReplayOf, ReplayData}
 use Rattle.place_trace.specs.declared.replay.PathReplay.{PathReplay}
 use Rattle.tpl_paths.specs.Edges.{Edge, before, calls, fills, passes, picks, writes}
 use Rattle.tpl_paths.specs.Paths.{Move, along, back}
@@ -67,6 +69,33 @@ IsFoundOn (along e) s r None = EdgeNotApart e s r
 IsFoundOn (along e) s r (Some x) = IsLastInEdge e s r x.0 x.1
 IsFoundOn back s r None = ⊤
 IsFoundOn back s r (Some x) = ⊥
+
+-- likewise of an edge, by the places of both before it
+abbrev pub IsPassedEdge : Bool → Edge → Place → Place → LastPlaces → Type 0
+IsPassedEdge apart e x y found = (s r : LexState ValueState) → IsOwn x s → IsOwn y r → PassMove apart (along e) s r × IsFoundOn (along e) s r found
+
+-- The last point of some moves at which they are apart, whatever moves and whatever text come behind them at none of whose points they are.
+abbrev pub IsFoundAlong : List Move → LexState ValueState → LexState ValueState → LastPlaces → Type 0
+IsFoundAlong ms s r None = (rest : List Move) (upto : ℕ) (bytes : List ℕ)
+    → NotApartAlong rest upto bytes (read_moves html_language ms s) (read_moves html_language ms r) → NotApartAlong (ms ++ rest) upto bytes s r
+IsFoundAlong ms s r (Some x) = (rest : List Move) (upto : ℕ) (bytes : List ℕ)
+    → NotApartAlong rest upto bytes (read_moves html_language ms s) (read_moves html_language ms r) → IsLastAlong (ms ++ rest) upto bytes s r x.0 x.1
+
+-- Two paths stay in the beginning of a URL along moves that both take, whatever moves come behind these.
+pub record PassMoves (ms : List Move) (s r : LexState ValueState) (found : LastPlaces) : Type 0 where
+  pub keeps : (rest : List Move) → KeepsAlong rest (read_moves html_language ms s) → KeepsAlong (ms ++ rest) s
+  pub other_keeps : (rest : List Move) → KeepsAlong rest (read_moves html_language ms r) → KeepsAlong (ms ++ rest) r
+  pub more : (rest : List Move) (upto : ℕ) (bytes : List ℕ) (p q : Place)
+      → IsLastAlong rest upto bytes (read_moves html_language ms s) (read_moves html_language ms r) p q → IsLastAlong (ms ++ rest) upto bytes s r p q
+  pub last : IsFoundAlong ms s r found
+
+-- Two paths go on by the same moves, as ones that met apart.
+pub record GoBoth (forest : ForestData) (w v w1 v1 : ReplayData) (found : LastPlaces) : Type 0 where
+  pub root : w1.root ≡ w.root
+  pub moves : List Move
+  pub goes : (is : IsReplayOf forest w) → (now : IsReplayOf forest w1) × (now.moves ≡ is.moves ++ moves)
+  pub other_goes : (js : IsReplayOf forest v) → (now : IsReplayOf forest v1) × (now.moves ≡ js.moves ++ moves)
+  pub passes : (is : IsReplayOf forest w) (js : IsReplayOf forest v) → PassMoves moves (shown_state is) (shown_state js) found
 
 -- both take one move
 pub record StepTogether (apart : Bool) (forest : ForestData) (w v w1 v1 : PathReplay) (found : LastPlaces)

@@ -11,11 +11,13 @@ mod making;
 mod met_apart;
 mod nodes;
 mod ordering;
+mod passing;
 mod printing;
 mod seen;
 mod showing;
 mod together;
 mod unknown;
+mod ways_together;
 
 pub use conflicts::{shown_conflict, shown_end};
 pub use laws::{only_ends_are_shown, shown_errors_stand};

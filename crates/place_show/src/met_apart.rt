@@ -7,12 +7,13 @@ ghost use Rattle.tpl_tree.specs.declared.node_kind.NodeKind.TheVariants as kind;
 
 use crate::beginnings::{common_colon, last_places};
 use crate::making::{made_two, text_mark};
+use crate::passing::latest;
 use crate::showing::Showing;
-use crate::together::{go_together, latest};
+use crate::together::go_together;
 use page_io::{Memory, Text};
 use place_core::Place;
 use place_flow::Flows;
-use place_trace::{MetApart, PathReplay, replayed};
+use place_trace::{CandidateStep, MetApart, PathReplay, replayed};
 use std::alloc::Global;
 use tpl_paths::Point;
 use tpl_tree::{Forest, NodeKind, Tree};
@@ -45,12 +46,12 @@ pub fn met_apart_error(
     }
 }
 
-// Likewise, on two paths which stand where they met, and the edges that both take from there.
+// Likewise, on two paths which stand where they met, and the steps that both take from there.
 fn where_met(
     alloc: Global,
     forest: &Forest,
     flows: &Flows,
-    common: &[u32],
+    common: &[CandidateStep],
     one: PathReplay,
     other: PathReplay,
 ) -> Result<Option<Showing>, Memory>
@@ -60,7 +61,7 @@ fn where_met(
         return Ok(None);
     }
     let (mut one, mut other) = (one, other);
-    match go_together(flows, common, &mut one, &mut other)? {
+    match go_together(alloc, flows, common, &mut one, &mut other)? {
         Some(last) => refused_on_both(alloc, forest, &one, &other, last),
         None => Ok(None),
     }

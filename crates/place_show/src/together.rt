@@ -1,31 +1,17 @@
-ghost use Rattle.std.specs.Prelude.{◌≡◌, IfOk, IfSome, IsTrue, Some, true, slice_get};
-ghost use Rattle.place_flow.specs.Flows.{edges_at};
-ghost use Rattle.place_show.specs.Together.{BothWent, GoOnTogether, IsQuiet, LastPlaces, PassedNode, StepTogether, WritesNode};
-ghost use Rattle.place_show.specs.Together as spec;
+ghost use Rattle.std.specs.Prelude.{◌≡◌, IfOk, IfSome, IsTrue, OnOk};
+ghost use Rattle.place_show.specs.Together.{BothWent, GoBoth, GoOnTogether, StepTogether};
+ghost use Rattle.place_show.specs.WaysTogether.{AreWaysTogether};
+ghost use Rattle.place_trace.specs.Replays.{replay_data};
 ghost use Rattle.place_trace.specs.declared.replay.PathReplay.{PathReplay as SpecReplay};
-ghost use Rattle.tpl_paths.specs.EdgeViews.{edge_at};
-ghost use Rattle.tpl_paths.specs.Edges as edges;
 
-use crate::beginnings::passed;
+use crate::passing::{latest, passed_edge};
+use crate::ways_together::WaysTogether;
 use page_io::Memory;
 use place_core::{Place, spells_apart};
 use place_flow::Flows;
-use place_trace::PathReplay;
-use tpl_paths::Edge;
-use tpl_tree::NodeKind;
-
-/// The later one of two points, by the places of both paths there.
-pub(crate) fn latest(
-    last: Option<(Place, Place)>,
-    found: Option<(Place, Place)>,
-) -> Option<(Place, Place)>
-    ensures { result ≡ spec.latest last found }
-{
-    match found {
-        Some(_) => found,
-        None => last,
-    }
-}
+use place_trace::{CandidateStep, PathReplay, same_point};
+use std::alloc::Global;
+use tpl_paths::Point;
 
 fn are_alike(one: bool, other: bool) -> bool
     ensures { IsTrue result → one ≡ other }
@@ -35,7 +21,7 @@ fn are_alike(one: bool, other: bool) -> bool
 
 // Goes back on both paths from each template at whose end they stand. Reports whether both went back alike.
 fn back_together(flows: &Flows, one: &mut PathReplay, other: &mut PathReplay) -> bool
-    ensures { IsTrue result → (w0 v0 : SpecReplay) (last : LastPlaces)
+    ensures { IsTrue result → (w0 v0 : SpecReplay) (last : _)
         → GoOnTogether flows.now w0 v0 one.old other.old last
         → GoOnTogether flows.now w0 v0 one.new other.new last }
 {
@@ -50,48 +36,6 @@ fn back_together(flows: &Flows, one: &mut PathReplay, other: &mut PathReplay) ->
         }
     }
     false
-}
-
-// The node of the text that an edge writes, by the edge's number; none where it writes none.
-fn written(flows: &Flows, template: u32, number: usize) -> Option<u32>
-    ensures { IfSome result (λ node. (e : edges.Edge)
-        → slice_get (edges_at flows.now template) number ≡ Some e → WritesNode node e) }
-{
-    match flows.edge(template, number) {
-        Some(edge) => written_by(edge),
-        None => None,
-    }
-}
-
-fn written_by(edge: Edge) -> Option<u32>
-    ensures { IfSome result (λ node. (e : edges.Edge) → edge_at e ≡ edge → WritesNode node e) }
-{
-    match edge {
-        Edge::Writes(node, _) => Some(node),
-        _ => None,
-    }
-}
-
-// Whether an edge neither writes a text nor fills a hole, by its number.
-fn is_quiet(flows: &Flows, template: u32, number: usize) -> bool
-    ensures { IsTrue result → (e : edges.Edge)
-        → slice_get (edges_at flows.now template) number ≡ Some e → IsQuiet e }
-{
-    match flows.edge(template, number) {
-        Some(edge) => is_quiet_edge(edge),
-        None => false,
-    }
-}
-
-fn is_quiet_edge(edge: Edge) -> bool
-    ensures { IsTrue result → (e : edges.Edge) → edge_at e ≡ edge → IsQuiet e }
-{
-    match edge {
-        Edge::Calls(_, _) => true,
-        Edge::Picks(_, _, _) => true,
-        Edge::Passes(_, _) => true,
-        _ => false,
-    }
 }
 
 // Takes an edge on both paths, by its number. Reports whether both went.
@@ -112,73 +56,7 @@ fn both_along(
     other.go_along(flows, number)
 }
 
-// Takes an edge on both paths that neither writes nor fills.
-fn quiet_together(
-    flows: &Flows,
-    number: usize,
-    one: &mut PathReplay,
-    other: &mut PathReplay,
-) -> Result<Option<Option<(Place, Place)>>, Memory>
-    ensures { IfOk result (λ found. IfSome found
-        (StepTogether true flows.now one.old other.old one.new other.new)) }
-{
-    if !is_quiet(flows, one.template, number) {
-        return Ok(None);
-    }
-    if both_along(flows, number, one, other)? {
-        return Ok(Some(None));
-    }
-    Ok(None)
-}
-
-// Their places at the last point of the text of a node at which they are apart, where two paths go on in it as ones that met apart.
-fn passed_node(
-    flows: &Flows,
-    template: u32,
-    node: u32,
-    one: Place,
-    other: Place,
-    apart: bool,
-) -> Option<Option<(Place, Place)>>
-    ensures { IfSome result (PassedNode apart flows.now template node one other) }
-{
-    let forest = flows.forest();
-    if template as usize >= forest.count() {
-        return None;
-    }
-    let tree = forest.tree(template);
-    if node >= tree.count() {
-        return None;
-    }
-    match tree.kind(node) {
-        NodeKind::Text(text) => passed(one, other, text.as_str(), apart),
-        _ => None,
-    }
-}
-
-// Takes an edge on both paths that writes the text of a node.
-fn text_together(
-    flows: &Flows,
-    number: usize,
-    node: u32,
-    one: &mut PathReplay,
-    other: &mut PathReplay,
-    apart: bool,
-) -> Result<Option<Option<(Place, Place)>>, Memory>
-    ensures { ((e : edges.Edge) → slice_get (edges_at flows.now one.old.template) number ≡ Some e
-        → WritesNode node e) → IfOk result (λ found. IfSome found
-        (StepTogether apart flows.now one.old other.old one.new other.new)) }
-{
-    let Some(found) = passed_node(flows, one.template, node, one.place, other.place, apart) else {
-        return Ok(None);
-    };
-    if both_along(flows, number, one, other)? {
-        return Ok(Some(found));
-    }
-    Ok(None)
-}
-
-// Takes an edge on both paths, on which they go on as ones that met apart.
+// Takes an edge on both paths, on which they go on as ones that met apart; if they have not come apart before it, they do in its text.
 fn step_together(
     flows: &Flows,
     number: usize,
@@ -189,52 +67,125 @@ fn step_together(
     ensures { IfOk result (λ found. IfSome found
         (StepTogether apart flows.now one.old other.old one.new other.new)) }
 {
-    if let Some(node) = written(flows, one.template, number) {
-        return text_together(flows, number, node, one, other, apart);
-    }
-    if apart {
-        return quiet_together(flows, number, one, other);
+    let passed = passed_edge(flows, one.template, number, one.place, other.place, apart);
+    let Some(found) = passed else {
+        return Ok(None);
+    };
+    if both_along(flows, number, one, other)? {
+        return Ok(Some(found));
     }
     Ok(None)
+}
+
+// Goes on on both paths to a point of their template, where nothing is chosen on the way.
+fn both_to(
+    alloc: Global,
+    flows: &Flows,
+    ways: &mut WaysTogether,
+    to: Point,
+    one: &mut PathReplay,
+    other: &mut PathReplay,
+) -> Result<Option<Option<(Place, Place)>>, Memory>
+    ensures ways { AreWaysTogether flows.now ways.old
+        → OnOk result (AreWaysTogether flows.now ways.new) }
+    ensures goes { AreWaysTogether flows.now ways.old → IfOk result (λ found. IfSome found
+        (GoBoth flows.now (replay_data one.old) (replay_data other.old)
+        (replay_data one.new) (replay_data other.new))) }
+{
+    if one.template != other.template {
+        return Ok(None);
+    }
+    if !same_point(one.point, other.point) {
+        return Ok(None);
+    }
+    let reached = ways.reach(
+        alloc,
+        flows,
+        one.template,
+        one.point,
+        one.place,
+        other.place,
+        to,
+    )?;
+    match reached {
+        Some(exit) => {
+            one.point = to;
+            one.place = exit.one;
+            other.point = to;
+            other.place = exit.other;
+            Ok(Some(exit.last))
+        }
+        None => Ok(None),
+    }
+}
+
+// Takes a step on both paths that met apart before it.
+fn take_together(
+    alloc: Global,
+    flows: &Flows,
+    ways: &mut WaysTogether,
+    step: CandidateStep,
+    one: &mut PathReplay,
+    other: &mut PathReplay,
+) -> Result<Option<Option<(Place, Place)>>, Memory>
+    ensures ways { AreWaysTogether flows.now ways.old
+        → OnOk result (AreWaysTogether flows.now ways.new) }
+    ensures goes { AreWaysTogether flows.now ways.old → IfOk result (λ found. IfSome found
+        (GoBoth flows.now (replay_data one.old) (replay_data other.old)
+        (replay_data one.new) (replay_data other.new))) }
+{
+    match step {
+        CandidateStep::Along(number) => step_together(flows, number as usize, one, other, true),
+        CandidateStep::To(point) => both_to(alloc, flows, ways, point, one, other),
+    }
 }
 
 // Takes the first edge on both paths from where they met, if they come apart in its text.
 fn first_together(
     flows: &Flows,
-    number: usize,
+    step: CandidateStep,
     one: &mut PathReplay,
     other: &mut PathReplay,
 ) -> Result<Option<Option<(Place, Place)>>, Memory>
     ensures { IfOk result (λ found. IfSome found
         (GoOnTogether flows.now one.old other.old one.new other.new)) }
 {
-    step_together(flows, number, one, other, false)
+    match step {
+        CandidateStep::Along(number) => step_together(flows, number as usize, one, other, false),
+        CandidateStep::To(_) => Ok(None),
+    }
 }
 
-// Takes a further edge on both paths, after going back where both stand at the end of a template.
+// Takes a further step on both paths, after going back where both stand at the end of a template.
 fn next_together(
+    alloc: Global,
     flows: &Flows,
-    number: usize,
+    ways: &mut WaysTogether,
+    step: CandidateStep,
     one: &mut PathReplay,
     other: &mut PathReplay,
     last: Option<(Place, Place)>,
 ) -> Result<Option<Option<(Place, Place)>>, Memory>
-    ensures { (w0 v0 : SpecReplay) → GoOnTogether flows.now w0 v0 one.old other.old last
+    ensures ways { AreWaysTogether flows.now ways.old
+        → OnOk result (AreWaysTogether flows.now ways.new) }
+    ensures goes { AreWaysTogether flows.now ways.old
+        → (w0 v0 : SpecReplay) → GoOnTogether flows.now w0 v0 one.old other.old last
         → IfOk result (λ now. IfSome now (GoOnTogether flows.now w0 v0 one.new other.new)) }
 {
     if !back_together(flows, one, other) {
         return Ok(None);
     }
-    match step_together(flows, number, one, other, true)? {
+    match take_together(alloc, flows, ways, step, one, other)? {
         Some(found) => Ok(Some(latest(last, found))),
         None => Ok(None),
     }
 }
 
-// Takes further edges on both paths, and goes back where both stand at the end of a template.
+// Takes further steps on both paths, and goes back where both stand at the end of a template.
 fn all_together(
+    alloc: Global,
     flows: &Flows,
-    numbers: &[u32],
+    steps: &[CandidateStep],
     one: &mut PathReplay,
     other: &mut PathReplay,
     last: Option<(Place, Place)>,
@@ -242,9 +193,10 @@ fn all_together(
     ensures { (w0 v0 : SpecReplay) → GoOnTogether flows.now w0 v0 one.old other.old last
         → IfOk result (λ now. IfSome now (GoOnTogether flows.now w0 v0 one.new other.new)) }
 {
+    let mut ways = WaysTogether::new(alloc, flows.forest().count())?;
     let mut last = last;
-    for number in numbers {
-        match next_together(flows, *number as usize, one, other, last)? {
+    for step in steps {
+        match next_together(alloc, flows, &mut ways, *step, one, other, last)? {
             Some(now) => last = now,
             None => return Ok(None),
         }
@@ -255,12 +207,13 @@ fn all_together(
     Ok(None)
 }
 
-/// Goes on along edges on both of two paths that met, if they go on as ones that met apart; gives their places at the last point at
-/// which they were apart, where there was one. None where they do not. Fails only if allocation fails. It takes time in proportion to the edges and
-/// to the length of their texts.
+/// Takes steps on both of two paths that met, if they go on as ones that met apart; gives their places at the last point at which they were
+/// apart, where there was one. None where they do not. Fails only if allocation fails. It takes time in proportion to the steps, and to the
+/// texts on the ways that they stand for, each once.
 pub(crate) fn go_together(
+    alloc: Global,
     flows: &Flows,
-    common: &[u32],
+    common: &[CandidateStep],
     one: &mut PathReplay,
     other: &mut PathReplay,
 ) -> Result<Option<Option<(Place, Place)>>, Memory>
@@ -268,13 +221,13 @@ pub(crate) fn go_together(
         (GoOnTogether flows.now one.old other.old one.new other.new)) }
 {
     if spells_apart(one.place, other.place) {
-        return all_together(flows, common, one, other, None);
+        return all_together(alloc, flows, common, one, other, None);
     }
     let Some((first, more)) = common.split_first() else {
         return Ok(None);
     };
-    match first_together(flows, *first as usize, one, other)? {
-        Some(found) => all_together(flows, more, one, other, found),
+    match first_together(flows, *first, one, other)? {
+        Some(found) => all_together(alloc, flows, more, one, other, found),
         None => Ok(None),
     }
 }

@@ -3,4 +3,4 @@ pub mod OpenCalls
 pub mod OwnPlaces
 pub mod Replaying
 pub mod Tellings
-pub mod Throughs
+pub mod UnchosenLeads

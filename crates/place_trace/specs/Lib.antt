@@ -1,4 +1,4 @@
 pub mod Apart
 pub mod Moving
 pub mod Replays
-pub mod WaysThrough
+pub mod UnchosenWays

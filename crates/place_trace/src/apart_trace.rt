@@ -1,6 +1,8 @@
-use crate::back_trace::{BackTrace, MOST_STEPS, Standing};
+use crate::back_trace::{BackTrace, MOST_STEPS};
+use crate::back_ways::BackWays;
 use crate::candidate::{Candidate, MetApart};
 use crate::derivations::{Derivations, FirstApart};
+use crate::standing::Standing;
 use page_io::Memory;
 use place_core::{Member, has_apart};
 use place_derive::{Derivation, DerivedFrom};
@@ -19,8 +21,9 @@ enum WayBack {
 }
 
 /// Two paths of a root that met apart and then took one way to a point: at each point of it the back trace goes back as that came which
-/// first gave the point a place at which two paths met apart. None where the log does not tell of them. Fails if allocation fails, or on a
-/// path of more than 2^26 steps.
+/// first gave the point a place at which two paths met apart. A stretch of a template on which nothing is chosen it goes once for each place
+/// in which the template is entered. None where the log does not tell of them. Fails if allocation fails, or on a path of more than 2^26
+/// steps, as on one of so many choices.
 pub fn met_apart(
     alloc: Global,
     flows: &Flows,
@@ -28,8 +31,9 @@ pub fn met_apart(
     at: Standing,
 ) -> Result<Option<MetApart>, Memory> {
     let mut way = BackTrace::new(alloc, at);
+    let mut ways = BackWays::new(alloc, flows.forest().count())?;
     for _step in 0..MOST_STEPS {
-        match step_back(alloc, flows, derivations, &mut way)? {
+        match step_back(alloc, flows, derivations, &mut ways, &mut way)? {
             WayBack::At => {}
             WayBack::Met(one, other) => return both(alloc, flows, derivations, way, one, other),
             WayBack::Nowhere => return Ok(None),
@@ -43,13 +47,15 @@ fn step_back(
     alloc: Global,
     flows: &Flows,
     derivations: &Derivations,
+    ways: &mut BackWays,
     way: &mut BackTrace,
 ) -> Result<WayBack, Memory> {
-    let at = way.standing();
     way.bear(Member::PartOpen);
+    way.jump(ways)?;
+    let at = way.standing();
     match derivations.first_apart(at.template, at.entry, at.point) {
-        Some(FirstApart::By(derivation)) => back_by(alloc, flows, way, derivation),
-        Some(FirstApart::ByTwo(one, other)) => met_by(alloc, flows, way, one, other),
+        Some(FirstApart::By(derivation)) => back_by(alloc, flows, ways, way, derivation),
+        Some(FirstApart::ByTwo(one, other)) => met_by(alloc, flows, ways, way, one, other),
         None => Ok(WayBack::Nowhere),
     }
 }
@@ -58,6 +64,7 @@ fn step_back(
 fn back_by(
     alloc: Global,
     flows: &Flows,
+    ways: &mut BackWays,
     way: &mut BackTrace,
     derivation: Derivation,
 ) -> Result<WayBack, Memory> {
@@ -69,7 +76,7 @@ fn back_by(
         }
         _ => {}
     }
-    Ok(step_where(way.back_by(flows, derivation)?))
+    Ok(step_where(way.back_by(alloc, flows, ways, derivation)?))
 }
 
 fn step_where(went: bool) -> WayBack {
@@ -101,16 +108,20 @@ fn met_within(
 fn met_by(
     alloc: Global,
     flows: &Flows,
+    ways: &mut BackWays,
     way: &BackTrace,
     first: Derivation,
     second: Derivation,
 ) -> Result<WayBack, Memory> {
     let mut one = way.fork(alloc)?;
     let mut other = way.fork(alloc)?;
-    if one.back_by(flows, first)? && other.back_by(flows, second)? {
-        return Ok(WayBack::Met(one, other));
+    if !one.back_by(alloc, flows, ways, first)? {
+        return Ok(WayBack::Nowhere);
     }
-    Ok(WayBack::Nowhere)
+    if !other.back_by(alloc, flows, ways, second)? {
+        return Ok(WayBack::Nowhere);
+    }
+    Ok(WayBack::Met(one, other))
 }
 
 // The two paths, where both back traces come to the start of a root.
@@ -128,7 +139,7 @@ fn both(
         (Some(one), Some(other)) => Ok(Some(MetApart {
             one,
             other,
-            common: way.edges(alloc)?,
+            common: way.into_steps(),
         })),
         _ => Ok(None),
     }

@@ -1,10 +1,12 @@
-/// A step of a path, by the number of its edge in the template in which the path then stands.
+use tpl_paths::Point;
+
+/// A step of a path in the template in which it then stands.
 #[derive(Clone, Copy, Debug)]
 pub enum CandidateStep {
-    /// Along the edge. That of a call enters its template. At a template's end the path goes back by itself, which is no step.
+    /// Along an edge, by its number. That of a call enters its template. At a template's end the path goes back by itself, which is no step.
     Along(u32),
-    /// Along the edge of a call, through the template that is called, in which nothing is chosen, and back.
-    Through(u32),
+    /// To a point of the template, along edges that are no choices; where one calls a template, through that, in which nothing is chosen.
+    To(Point),
 }
 
 /// A path of a root that may show an error. Nothing is promised of it: whoever shows it replays it first.
@@ -24,8 +26,8 @@ pub struct MetApart {
     pub one: Candidate,
     /// The other one.
     pub other: Candidate,
-    /// The numbers of the edges that both take from there on.
-    pub common: Vec<u32>,
+    /// The steps that both take from there on.
+    pub common: Vec<CandidateStep>,
 }
 
 /// Paths that may show why something is in conflict.

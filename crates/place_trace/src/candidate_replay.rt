@@ -1,10 +1,10 @@
 ghost use Rattle.std.specs.Prelude.{IfOk, IfSome, OnOk};
 ghost use Rattle.place_trace.specs.Replays.{IsPathReplay};
-ghost use Rattle.place_trace.specs.WaysThrough.{AreWaysThrough};
+ghost use Rattle.place_trace.specs.UnchosenWays.{AreUnchosenWays};
 
 use crate::candidate::CandidateStep;
 use crate::replay::PathReplay;
-use crate::ways_through::WaysThrough;
+use crate::unchosen_ways::UnchosenWays;
 use page_io::Memory;
 use place_flow::Flows;
 use std::alloc::Global;
@@ -24,23 +24,23 @@ fn return_from_ends(flows: &Flows, replay: &mut PathReplay)
 fn take(
     alloc: Global,
     flows: &Flows,
-    ways: &mut WaysThrough,
+    ways: &mut UnchosenWays,
     replay: &mut PathReplay,
     step: CandidateStep,
 ) -> Result<bool, Memory>
-    ensures ways { AreWaysThrough flows.now ways.old
-        → OnOk result (AreWaysThrough flows.now ways.new) }
-    ensures path { AreWaysThrough flows.now ways.old → IsPathReplay flows.now replay.old
+    ensures ways { AreUnchosenWays flows.now ways.old
+        → OnOk result (AreUnchosenWays flows.now ways.new) }
+    ensures path { AreUnchosenWays flows.now ways.old → IsPathReplay flows.now replay.old
         → OnOk result (IsPathReplay flows.now replay.new) }
 {
     match step {
         CandidateStep::Along(number) => replay.go_along(flows, number as usize),
-        CandidateStep::Through(number) => replay.go_through(alloc, flows, ways, number as usize),
+        CandidateStep::To(point) => replay.go_to(alloc, flows, ways, point),
     }
 }
 
-/// The path of a root by steps, as a candidate has them, if that is one. A template in which nothing is chosen is gone through once for
-/// each place in which it is entered, however often the path is to go through it. Fails only if allocation fails.
+/// The path of a root by steps, as a candidate has them, if that is one. A stretch of a template on which nothing is chosen is gone once for
+/// each place in which it begins, however often the path is to go along it. Fails only if allocation fails.
 pub fn replayed(
     alloc: Global,
     flows: &Flows,
@@ -52,7 +52,7 @@ pub fn replayed(
     let Some(mut replay) = PathReplay::new(alloc, flows, root) else {
         return Ok(None);
     };
-    let mut ways = WaysThrough::new(alloc, flows.forest().count())?;
+    let mut ways = UnchosenWays::new(alloc, flows.forest().count())?;
     for step in steps {
         return_from_ends(flows, &mut replay);
         if !take(alloc, flows, &mut ways, &mut replay, *step)? {

@@ -1,11 +1,13 @@
 ghost use Rattle.place_trace.specs.Apart.{IsApartWhere};
 
 use crate::apart_trace::met_apart;
-use crate::back_trace::{BackTrace, Standing};
+use crate::back_trace::{BackStep, BackTrace};
+use crate::back_ways::BackWays;
 use crate::candidate::{Candidate, Candidates};
 use crate::derivations::{Derivations, derivations_of};
 use crate::edges::{edge_to_head, kind_at};
 use crate::showing::{clash_shown, node_shown};
+use crate::standing::Standing;
 use html_step::Evidence;
 use page_io::Memory;
 use place_core::{Member, Place, TEXT};
@@ -176,8 +178,10 @@ fn of_clash(
     let met = met_at(alloc, flows, conflict, to, one)?;
     add(alloc, flows, derivations, &mut candidates, met)?;
     let mut along = met_at(alloc, flows, conflict, to, other)?;
-    if along.back_along(flows, conflict.edge, conflict.source)? {
-        add(alloc, flows, derivations, &mut candidates, along)?;
+    let mut ways = BackWays::new(alloc, flows.forest().count())?;
+    match along.back_along(alloc, flows, &mut ways, conflict.edge, conflict.source)? {
+        BackStep::At => add(alloc, flows, derivations, &mut candidates, along)?,
+        _ => {}
     }
     Ok(Candidates::AtConflict(candidates))
 }

@@ -1,8 +1,7 @@
-ghost use Rattle.std.specs.Prelude.{◌≡◌, ◌<◌, ◌++◌, OnOk, Some, length, slice_get};
+ghost use Rattle.std.specs.Prelude.{◌≡◌, ◌++◌, OnOk, Some, slice_get};
 ghost use Rattle.place_flow.specs.Flows.{choice_of, edges_at};
 ghost use Rattle.place_trace.specs.Moving.{HasEntered, HasArrived, noted};
 ghost use Rattle.place_trace.specs.Replays.{IsPathReplay, WentBy, replay_data};
-ghost use Rattle.place_trace.specs.WaysThrough.{AreWaysThrough};
 ghost use Rattle.tpl_paths.specs.Edges.{from_of, to_of};
 ghost use Rattle.tpl_tree.specs.Forests.{HasAscendingNames};
 ghost use Rattle.tpl_paths.specs.Edges as spec;
@@ -10,11 +9,9 @@ ghost use Rattle.tpl_paths.specs.Edges as spec;
 use crate::chosen::Chosen;
 use crate::points::node_of;
 use crate::replay::{PathReplay, ReplayedCall};
-use crate::ways_through::WaysThrough;
 use page_io::Memory;
 use place_core::Place;
 use place_flow::{EdgeStep, Flows, transfer};
-use std::alloc::Global;
 use tpl_paths::{Point, Way};
 
 // Notes what is chosen at a point of a template.
@@ -105,38 +102,5 @@ pub(crate) fn go_on(
             Ok(true)
         }
         EdgeStep::Refused => Ok(false),
-    }
-}
-
-// Goes on behind the call of a template, by its edge, which begins where the path stands.
-pub(crate) fn go_behind(
-    replay: &mut PathReplay,
-    alloc: Global,
-    flows: &Flows,
-    ways: &mut WaysThrough,
-    number: usize,
-    to: Point,
-) -> Result<bool, Memory>
-    ensures ways { AreWaysThrough flows.now ways.old
-        → OnOk result (AreWaysThrough flows.now ways.new) }
-    ensures path { HasAscendingNames flows.now → replay.old.template < length flows.now
-        → (e : spec.Edge)
-        → slice_get (edges_at flows.now replay.old.template) number ≡ Some e
-        → replay.old.point ≡ from_of e → to ≡ to_of e
-        → AreWaysThrough flows.now ways.old → IsPathReplay flows.now replay.old
-        → OnOk result (IsPathReplay flows.now replay.new) }
-{
-    match transfer(flows, replay.template, number, replay.place) {
-        EdgeStep::Enters(callee, place) => {
-            match ways.through(alloc, flows, callee, place)? {
-                Some(exit) => {
-                    replay.point = to;
-                    replay.place = exit;
-                    Ok(true)
-                }
-                None => Ok(false),
-            }
-        }
-        _ => Ok(false),
     }
 }

@@ -16,8 +16,8 @@ pub(crate) fn node_of(point: Point) -> u32
     }
 }
 
-// Whether two points are one.
-pub(crate) fn same_point(a: Point, b: Point) -> bool
+/// Whether two points are one.
+pub fn same_point(a: Point, b: Point) -> bool
     ensures { IsTrue result → a ≡ b }
 {
     match (a, b) {

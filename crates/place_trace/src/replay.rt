@@ -1,12 +1,12 @@
 ghost use Rattle.std.specs.Prelude.{◌≡◌, IfSome, IsTrue, OnOk};
 ghost use Rattle.place_trace.specs.Replays.{IsPathReplay, WentAlong, WentBack};
-ghost use Rattle.place_trace.specs.WaysThrough.{AreWaysThrough};
+ghost use Rattle.place_trace.specs.UnchosenWays.{AreUnchosenWays};
 
 use crate::calls::{close, innermost, same_calls};
 use crate::chosen::Chosen;
-use crate::moving::{go_behind, go_on};
+use crate::moving::go_on;
 use crate::points::same_point;
-use crate::ways_through::WaysThrough;
+use crate::unchosen_ways::UnchosenWays;
 use page_io::Memory;
 use place_core::{Place, TEXT};
 use place_flow::Flows;
@@ -81,29 +81,25 @@ impl PathReplay {
         }
     }
 
-    /// Goes on along the edge of a call of the template, by its number, through the template that is called, where nothing is chosen in
-    /// that, and back. Reports whether it went. Fails only if allocation fails.
-    pub(crate) fn go_through(
+    /// Goes on to another point of the template, where nothing is chosen on the way and no node on it is refused; through the templates that
+    /// are called on it. Reports whether it went. Fails only if allocation fails.
+    pub(crate) fn go_to(
         &mut self,
         alloc: Global,
         flows: &Flows,
-        ways: &mut WaysThrough,
-        number: usize,
+        ways: &mut UnchosenWays,
+        to: Point,
     ) -> Result<bool, Memory>
-        ensures ways { AreWaysThrough flows.now ways.old
-            → OnOk result (AreWaysThrough flows.now ways.new) }
-        ensures path { AreWaysThrough flows.now ways.old → IsPathReplay flows.now self.old
+        ensures ways { AreUnchosenWays flows.now ways.old
+            → OnOk result (AreUnchosenWays flows.now ways.new) }
+        ensures path { AreUnchosenWays flows.now ways.old → IsPathReplay flows.now self.old
             → OnOk result (IsPathReplay flows.now self.new) }
     {
-        if self.template as usize >= flows.forest().count() {
-            return Ok(false);
-        }
-        match flows.ends(self.template, number) {
-            Some((from, to)) => {
-                if !same_point(self.point, from) {
-                    return Ok(false);
-                }
-                go_behind(self, alloc, flows, ways, number, to)
+        match ways.reach(alloc, flows, self.template, self.point, self.place, to)? {
+            Some(exit) => {
+                self.point = to;
+                self.place = exit;
+                Ok(true)
             }
             None => Ok(false),
         }

@@ -4,8 +4,8 @@ use Rattle.place_show.proofs.Mapped.{if-shown}
 use Rattle.place_show.specs.Together.{GoOnTogether, StepTogether}
 use Rattle.place_show.proofs.together.first_together.Goals as goal
 
-pub returns : goal.returns
-returns c =
+pub returns-in-Along : goal.returns-in-Along
+returns-in-Along c =
     let forest = c.args.flows.now in
     let w = c.args.one.now in
     let v = c.args.other.now in
