@@ -1,6 +1,7 @@
 ghost use Rattle.std.specs.Prelude.{◌≡◌};
 
 use crate::whole_page::one_file;
+use page_datum::Pages;
 use page_io::{Bytes, List, MemFolder, Memory, Text};
 use page_net::SureLink;
 use page_office::{Back, Office, OfficeClerk};
