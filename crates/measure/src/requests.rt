@@ -14,6 +14,12 @@ Connection: keep-alive\r\n\r\n";
 // More than the bytes of the head before a body.
 const BODY_HEAD: usize = 128;
 
+// A part of a body, of 256 bytes.
+const PART_OF_BODY: &str = "aaaaaaaaaaaaaaaaaaaaaaaaaaaaaaaaaaaaaaaaaaaaaaaaaaaaaaaaaaaaaaaa\
+aaaaaaaaaaaaaaaaaaaaaaaaaaaaaaaaaaaaaaaaaaaaaaaaaaaaaaaaaaaaaaaa\
+aaaaaaaaaaaaaaaaaaaaaaaaaaaaaaaaaaaaaaaaaaaaaaaaaaaaaaaaaaaaaaaa\
+aaaaaaaaaaaaaaaaaaaaaaaaaaaaaaaaaaaaaaaaaaaaaaaaaaaaaaaaaaaaaaaa";
+
 /// As many requests of 8 fields as fit.
 pub fn heads(alloc: Global, size: usize) -> Result<String, AllocError>
     ensures { IfOk result (λ text. length (string_bytes text) ≤ size) }
@@ -33,6 +39,7 @@ pub fn body(alloc: Global, size: usize) -> Result<String, AllocError>
     )?;
     let mut text = String::with_capacity(alloc, size)?;
     push_within(&mut text, head.as_str(), size)?;
+    push_units(&mut text, PART_OF_BODY, size)?;
     push_units(&mut text, "aaaaaaaa", size)?;
     Ok(text)
 }
