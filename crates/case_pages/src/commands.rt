@@ -1,10 +1,16 @@
+use crate::net::net_of;
 use crate::settings::{fails_of, settings_of, step_of};
 use case_data::mem_file;
 use case_table::{CaseOutput, CaseRow, CaseStop, pair_of, text_of};
 use page_datum::Datum;
 use page_io::{List, MemFile, MemFolder, MemSink, MemSource};
+use page_net::{MemLink, MemNet};
+use page_spawn::InlineSpawner;
 use page_tool::{Status, run};
+use set_publisher::PackSeats;
 use std::alloc::Global;
+use std::sync::Wait;
+use std::thread::Threads;
 
 // The directory of the files of a row.
 const DIR: &str = "D";
@@ -20,9 +26,14 @@ const OUTPUT_STEP: u64 = 100;
 const LINES_STEP: u64 = 5;
 
 /// Writes what a call of `page_tool` gives: how a command ends and what it writes, and the number of a status.
-pub fn put_commands(out: &mut CaseOutput, call: &str, row: &CaseRow) -> Result<(), CaseStop> {
+pub fn put_commands<R: Threads + Wait + Sync>(
+    rt: &R,
+    out: &mut CaseOutput,
+    call: &str,
+    row: &CaseRow,
+) -> Result<(), CaseStop> {
     match call {
-        "run" => put_run(out, row),
+        "run" => put_run(rt, out, row),
         "code" => {
             out.put_count(status_of(row.text(0)?)?.code() as u64);
             Ok(())
@@ -32,28 +43,60 @@ pub fn put_commands(out: &mut CaseOutput, call: &str, row: &CaseRow) -> Result<(
 }
 
 // Writes what a command gives: the row has the files, the words, the input and the settings.
-fn put_run(out: &mut CaseOutput, row: &CaseRow) -> Result<(), CaseStop> {
+fn put_run<R: Threads + Wait + Sync>(
+    rt: &R,
+    out: &mut CaseOutput,
+    row: &CaseRow,
+) -> Result<(), CaseStop> {
     let alloc = out.alloc();
     let settings = settings_of(row.list(3)?)?;
     let words = words_of(alloc, row.part(1)?)?;
     let folder = folder_of(alloc, row.list(0)?, settings)?;
     let input = input_of(alloc, row, settings)?;
     let output = output_of(alloc, settings)?;
-    put_command(out, words.as_slice(), folder, input, output)
+    let net = net_of(alloc, settings)?;
+    let spawner: InlineSpawner<R> = InlineSpawner::new(fails_of(alloc, settings, "spawner fails")?);
+    let seats = PackSeats::new(fails_of(alloc, settings, "seats fail")?);
+    put_command(
+        rt,
+        out,
+        words.as_slice(),
+        folder,
+        input,
+        output,
+        net,
+        spawner,
+        seats,
+    )
 }
 
-// Writes how a command over these devices ends: the status with its number, the output, and the lines for people.
-fn put_command(
+// Writes how a command over these devices ends: the status with its number, the output, and the lines for people. The workers of `serve`
+// run one after another.
+fn put_command<R: Threads + Wait + Sync>(
+    rt: &R,
     out: &mut CaseOutput,
     words: &[String],
     folder: MemFolder,
-    input: MemSource,
-    output: MemSink,
+    mut input: MemSource,
+    mut output: MemSink,
+    mut net: MemNet<MemLink>,
+    mut spawner: InlineSpawner<R>,
+    mut seats: PackSeats,
 ) -> Result<(), CaseStop> {
     let alloc = out.alloc();
-    let (mut input, mut output) = (input, output);
     let mut lines = MemSink::new(alloc, ROOM, LINES_STEP, List::new(alloc))?;
-    let (status, _) = run(alloc, words, folder, &mut input, &mut output, &mut lines);
+    let (status, _) = run(
+        alloc,
+        rt,
+        words,
+        folder,
+        &mut input,
+        &mut output,
+        &mut lines,
+        &mut net,
+        &mut spawner,
+        &mut seats,
+    );
     if status == Status::Memory {
         return Err(CaseStop::Memory);
     }
@@ -122,6 +165,9 @@ fn status_of(name: &str) -> Result<Status, CaseStop> {
         "DataRefused" => Ok(Status::DataRefused),
         "ReadFault" => Ok(Status::ReadFault),
         "WriteFault" => Ok(Status::WriteFault),
+        "NetFault" => Ok(Status::NetFault),
+        "SpawnFault" => Ok(Status::SpawnFault),
+        "SeatFault" => Ok(Status::SeatFault),
         "NoTemplate" => Ok(Status::NoTemplate),
         "Memory" => Ok(Status::Memory),
         _ => Err(CaseStop::Form),

@@ -2,6 +2,7 @@
 #![tactic(auto)]
 
 mod commands;
+mod net;
 mod pages;
 mod settings;
 

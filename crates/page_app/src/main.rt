@@ -1,8 +1,11 @@
 // The program: the commands over the real devices.
 #![tactic(auto)]
 
-use page_io::{Directory, ReadSource, WriteSink};
+use page_io::{Directory, List, ReadSource, WriteSink};
+use page_spawn::ThreadSpawner;
+use page_tcp::TcpNet;
 use page_tool::{Status, run};
+use set_publisher::PackSeats;
 use std::alloc::AllocError;
 use std::env;
 use std::io::ErrorKind;
@@ -17,13 +20,20 @@ fn main(rt: HostRuntime) -> ExitCode {
     let mut input = ReadSource::new(rt.stdin());
     let mut out = WriteSink::new(rt.stdout());
     let mut err = WriteSink::new(rt.stderr());
+    let mut net = TcpNet::new(&rt);
+    let mut spawner = ThreadSpawner::new(&rt);
+    let mut seats = PackSeats::new(List::new(rt.alloc()));
     let (status, _folder) = run(
         rt.alloc(),
+        &rt,
         words.as_slice(),
         folder,
         &mut input,
         &mut out,
         &mut err,
+        &mut net,
+        &mut spawner,
+        &mut seats,
     );
     ExitCode::from(status.code())
 }

@@ -48,7 +48,7 @@ pub branch_runs : (a b : Asked) (before after : Devices) (s : Status) → a ≡ 
 branch_runs a b before after s is r = subst (λ (x : Asked). Runs (command_asked x) before after s) (sym is) r
 
 -- files that are refused are none on whose paths no error stands
-refused_for : (held : Option FolderContents) (dir : List ℕ) → IfSome held (λ h. (why : MakeRefused) × IsRefusedFor h dir why) → IfSome held (λ h. HaveNoError (files_of h dir).list → ⊥)
+pub refused_for : (held : Option FolderContents) (dir : List ℕ) → IfSome held (λ h. (why : MakeRefused) × IsRefusedFor h dir why) → IfSome held (λ h. HaveNoError (files_of h dir).list → ⊥)
 refused_for None dir r = tt
 refused_for (Some h) dir r = λ free. r.1.known (needs_cause (files_of h dir).list r.0 r.1.cause free)
 

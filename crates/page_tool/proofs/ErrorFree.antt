@@ -45,7 +45,7 @@ files_free c files same is = subst (λ (f : Files). HaveNoError f.list) same (ch
 set_free : (h : FolderContents) (dir : List ℕ) → IsSet h dir → HaveNoError (files_of h dir).list
 set_free h dir is = files_free is.0 (files_of h dir) is.1.files is.1.checked
 
-sets_free : (held : Option FolderContents) (dir : List ℕ) → IfSome held (λ h. IsSet h dir) → IfSome held (λ h. HaveNoError (files_of h dir).list)
+pub sets_free : (held : Option FolderContents) (dir : List ℕ) → IfSome held (λ h. IsSet h dir) → IfSome held (λ h. HaveNoError (files_of h dir).list)
 sets_free None dir is = tt
 sets_free (Some h) dir is = set_free h dir is
 
@@ -66,6 +66,9 @@ check_free held dir status.Ok a c = sets_free held dir c
 check_free held dir status.WriteFault a c = sets_free held dir c
 check_free held dir status.SetRefused a c = cc
 check_free held dir status.Usage a c = cc
+check_free held dir status.NetFault a c = absurd c
+check_free held dir status.SpawnFault a c = absurd c
+check_free held dir status.SeatFault a c = absurd c
 check_free held dir status.ExecFault a c = absurd c
 check_free held dir status.DataRefused a c = absurd c
 check_free held dir status.ReadFault a c = cc
@@ -78,6 +81,9 @@ render_free held input dir root status.Ok a c = with_free held dir root c.0.0
 render_free held input dir root status.WriteFault a c = with_free held dir root c.0.0
 render_free held input dir root status.SetRefused a c = cc
 render_free held input dir root status.Usage a c = cc
+render_free held input dir root status.NetFault a c = absurd c
+render_free held input dir root status.SpawnFault a c = absurd c
+render_free held input dir root status.SeatFault a c = absurd c
 render_free held input dir root status.ExecFault a c = with_free held dir root c.0.0
 render_free held input dir root status.DataRefused a c = with_free held dir root c.0
 render_free held input dir root status.ReadFault a c = cc
@@ -89,6 +95,9 @@ explain_free held dir root status.Ok a c = with_free held dir root c
 explain_free held dir root status.WriteFault a c = with_free held dir root c
 explain_free held dir root status.SetRefused a c = cc
 explain_free held dir root status.Usage a c = cc
+explain_free held dir root status.NetFault a c = absurd c
+explain_free held dir root status.SpawnFault a c = absurd c
+explain_free held dir root status.SeatFault a c = absurd c
 explain_free held dir root status.ExecFault a c = absurd c
 explain_free held dir root status.DataRefused a c = absurd c
 explain_free held dir root status.ReadFault a c = cc
@@ -100,6 +109,9 @@ make_free sections status.Ok a c = made_free sections c.1.set c.1.made
 make_free sections status.WriteFault a c = made_free sections c.1.set c.1.made
 make_free sections status.SetRefused a c = cc
 make_free sections status.Usage a c = cc
+make_free sections status.NetFault a c = absurd c
+make_free sections status.SpawnFault a c = absurd c
+make_free sections status.SeatFault a c = absurd c
 make_free sections status.ExecFault a c = made_free sections c.1.set.0 c.1.set.1
 make_free sections status.DataRefused a c = absurd c
 make_free sections status.ReadFault a c = cc

@@ -10,5 +10,8 @@ pub mod Pages
 pub mod Parsing
 pub mod Renderings
 pub mod SectionSteps
+pub mod ServeEndings
+pub mod ServeExamples
+pub mod ServeRuns
 pub mod SetLaws
 pub mod Statuses

@@ -127,6 +127,9 @@ refused : (sections : ℕ) (s : Status) → MakeCause sections s → FilesRefuse
 refused sections status.Ok c why = absurd (taken_up sections (c.1.set, c.1.made) why)
 refused sections status.SetRefused c why = inl refl
 refused sections status.Usage c why = absurd c
+refused sections status.NetFault c why = absurd c
+refused sections status.SpawnFault c why = absurd c
+refused sections status.SeatFault c why = absurd c
 refused sections status.ExecFault c why = absurd (taken_up sections c.1.set why)
 refused sections status.DataRefused c why = absurd c
 refused sections status.ReadFault c why = absurd c
@@ -139,6 +142,9 @@ faults : (sections : ℕ) (s : Status) → MakeCause sections s → IsMadeSet se
 faults sections status.Ok c is e page fault meets = not_both sections c.1.e e fault c.1.page c.1.ends page meets
 faults sections status.SetRefused c is e page fault meets = absurd (taken_up sections is (refusal sections c.0 c.1))
 faults sections status.Usage c is e page fault meets = absurd c
+faults sections status.NetFault c is e page fault meets = absurd c
+faults sections status.SpawnFault c is e page fault meets = absurd c
+faults sections status.SeatFault c is e page fault meets = absurd c
 faults sections status.ExecFault c is e page fault meets = inl refl
 faults sections status.DataRefused c is e page fault meets = absurd c
 faults sections status.ReadFault c is e page fault meets = absurd c
@@ -151,6 +157,9 @@ complete : (sections : ℕ) (o : Type 0) (s : Status) → MakeCause sections s �
 complete sections o status.Ok c w is e page ends = inl (inl refl)
 complete sections o status.SetRefused c w is e page ends = absurd (taken_up sections is (refusal sections c.0 c.1))
 complete sections o status.Usage c w is e page ends = absurd c
+complete sections o status.NetFault c w is e page ends = absurd c
+complete sections o status.SpawnFault c w is e page ends = absurd c
+complete sections o status.SeatFault c w is e page ends = absurd c
 complete sections o status.ExecFault c w is e page ends = not_both sections e c.1.e c.0 page ends c.1.page c.1.ends
 complete sections o status.DataRefused c w is e page ends = absurd c
 complete sections o status.ReadFault c w is e page ends = absurd c

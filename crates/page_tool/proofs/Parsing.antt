@@ -67,7 +67,7 @@ unfolding clap_on_literals
 make_read word d = rw (d.dashes, d.long, d.short) refl
 
 -- a name is this word
-named : (name word : Text) → bytes_eq name word ≡ true → name ≡ word
+pub named : (name word : Text) → bytes_eq name word ≡ true → name ≡ word
 named name word e = (bytes_eq-Decides name word).0 e
 
 on_make : (name word : Text) (b : Bool) → bytes_eq name (codes "make") ≡ b → IsPlain word

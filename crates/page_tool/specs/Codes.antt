@@ -13,6 +13,9 @@ code_of status.ExecFault = 3
 code_of status.DataRefused = 4
 code_of status.ReadFault = 5
 code_of status.WriteFault = 6
+code_of status.NetFault = 7
+code_of status.SpawnFault = 8
+code_of status.SeatFault = 9
 code_of status.NoTemplate = 10
 code_of status.Memory = 11
 

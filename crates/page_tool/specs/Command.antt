@@ -97,6 +97,9 @@ is_accepted status.Ok = true
 is_accepted status.ExecFault = true
 is_accepted status.DataRefused = true
 is_accepted status.WriteFault = true
+is_accepted status.NetFault = true
+is_accepted status.SpawnFault = true
+is_accepted status.SeatFault = true
 is_accepted status.NoTemplate = true
 is_accepted _ = false
 

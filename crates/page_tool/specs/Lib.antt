@@ -13,5 +13,10 @@ pub mod Output
 pub mod Program
 pub mod Runs
 pub mod Sections
+pub mod ServeDevices
+pub mod ServeReading
+pub mod ServeStatuses
+pub mod ServeWords
+pub mod Serving
 pub mod SetTexts
 pub mod Words

@@ -21,7 +21,8 @@ use Rattle.page_tool.specs.declared.stop.CommandStop.TheVariants as stop
 -- the line for words that are no command
 abbrev pub usage_text : List ℕ
 usage_text =
-    codes "usage: check DIR | render DIR NAME | explain DIR NAME | make N" ++ 10 ∷ []
+    codes "usage: check DIR | render DIR NAME | explain DIR NAME" ++ (codes " | serve DIR ADDR --workers N [--links K]"
+    ++ (codes " | make N" ++ 10 ∷ []))
 
 -- the line of an input that is refused
 abbrev pub data_text : DataRefused → List ℕ
@@ -53,6 +54,9 @@ Says why name s old new =
 abbrev pub StatusText : Option FolderContents → Option (List ℕ) → List ℕ → List ℕ → Status → List ℕ → Type 0
 StatusText held input dir name status.Ok text = text ≡ []
 StatusText held input dir name status.Usage text = ⊥
+StatusText held input dir name status.NetFault text = ⊥
+StatusText held input dir name status.SpawnFault text = ⊥
+StatusText held input dir name status.SeatFault text = ⊥
 StatusText held input dir name status.ExecFault text =
     (fault : ExecFault) × FaultsWith held input dir name fault
     × (text ≡ stop_text (stop.Fault fault) name)

@@ -128,6 +128,9 @@ StatusCause held input dir root status.DataRefused =
     IfSome held (λ h. IsSetWith h dir root)
     × IfSome input (λ i. (why : DataRefused) × IsNoDatum why i)
 StatusCause held input dir root status.Usage = ⊥
+StatusCause held input dir root status.NetFault = ⊥
+StatusCause held input dir root status.SpawnFault = ⊥
+StatusCause held input dir root status.SeatFault = ⊥
 StatusCause held input dir root status.ReadFault = ⊤
 StatusCause held input dir root status.Memory = ⊤
 StatusCause held input dir root status.ExecFault =

@@ -34,18 +34,23 @@ max_sections = 10000
 abbrev pub number_with_digit : ℕ → ℕ → ℕ
 number_with_digit n b = n * 10 + (b - 48)
 
--- a byte that is a digit, with which the number is no greater than that of the most sections
-abbrev pub takes_digit : ℕ → ℕ → Bool
-takes_digit n b = nat_le 48 b && nat_le b 57 && nat_le (number_with_digit n b) max_sections
+-- a byte that is a digit, with which the number is no greater than `most`
+abbrev pub takes_digit : ℕ → ℕ → ℕ → Bool
+takes_digit most n b = nat_le 48 b && nat_le b 57 && nat_le (number_with_digit n b) most
 
--- the number of sections that decimal digits are, after those of `n`
-abbrev pub sections_after : ℕ → List ℕ → Option ℕ
-sections_after n [] = if nat_lt 0 n then Some n else None
-sections_after n (b ∷ bs) = if takes_digit n b then sections_after (number_with_digit n b) bs else None
+-- the number that decimal digits are, after those of `n`, up to `most`
+abbrev pub digits_after : ℕ → ℕ → List ℕ → Option ℕ
+digits_after most n [] = if nat_lt 0 n then Some n else None
+digits_after most n (b ∷ bs) =
+    if takes_digit most n b then digits_after most (number_with_digit n b) bs else None
 
--- the number of sections that a word is: from 1 to the most, in decimal digits alone
+-- the number that a word is: from 1 up to `most`, in decimal digits alone
+abbrev pub number_up_to : ℕ → List ℕ → Option ℕ
+number_up_to most word = digits_after most 0 word
+
+-- the number of sections that a word is
 abbrev pub sections_in : List ℕ → Option ℕ
-sections_in word = sections_after 0 word
+sections_in word = number_up_to max_sections word
 
 -- the command that makes so many sections
 abbrev pub making : Option ℕ → Command

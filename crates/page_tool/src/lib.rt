@@ -11,6 +11,8 @@ mod program;
 mod render;
 mod report;
 mod sections;
+mod serve;
+mod serve_words;
 mod set;
 mod status;
 mod stop;
@@ -18,4 +20,4 @@ mod top;
 mod words;
 
 pub use status::Status;
-pub use top::run;
+pub use top::{run, run_files};

@@ -20,6 +20,12 @@ pub enum Status {
     ReadFault,
     /// The output failed.
     WriteFault,
+    /// The net failed.
+    NetFault,
+    /// The spawner failed.
+    SpawnFault,
+    /// A place for a viewer was refused.
+    SeatFault,
     /// No root has the name.
     NoTemplate,
     /// Out of memory.
@@ -39,6 +45,9 @@ impl Status {
             Status::DataRefused => 4,
             Status::ReadFault => 5,
             Status::WriteFault => 6,
+            Status::NetFault => 7,
+            Status::SpawnFault => 8,
+            Status::SeatFault => 9,
             Status::NoTemplate => 10,
             Status::Memory => 11,
         }

@@ -1,5 +1,5 @@
 ghost use Rattle.std.specs.Prelude.{◌≡◌, ◌≤◌, []};
-ghost use Rattle.page_tool.specs.Words.{texts, command_at, command_by, command_of, is_command, sections_in, takes_digit};
+ghost use Rattle.page_tool.specs.Words.{texts, command_at, command_by, command_of, is_command, number_up_to, sections_in, takes_digit};
 ghost use Rattle.page_tool.specs.Words as spec;
 
 /// The most sections that are made.
@@ -31,8 +31,8 @@ fn takes_root(name: &str) -> bool
     name == "render" || name == "explain"
 }
 
-// Whether a word begins with `-`.
-fn is_option(word: &str) -> bool
+/// Whether a word begins with `-`.
+pub fn is_option(word: &str) -> bool
     ensures { result ≡ spec.is_option word.now }
 {
     match word.as_bytes().first() {
@@ -45,20 +45,28 @@ fn is_option(word: &str) -> bool
 pub fn sections_in(word: &str) -> Option<u32>
     ensures { result ≡ sections_in word.now }
 {
-    let mut sections = 0;
-    for byte in word.as_bytes() {
-        if !takes_digit(sections, *byte) {
-            return None;
-        }
-        sections = sections * 10 + (*byte - b'0') as u32;
-    }
-    if 0 < sections { Some(sections) } else { None }
+    number_in(MAX_SECTIONS, word.as_bytes())
 }
 
-// Whether a byte is a digit, with which the number is no greater than that of the most sections.
-fn takes_digit(sections: u32, byte: u8) -> bool
-    requires { sections ≤ 10000 }
-    ensures { result ≡ takes_digit sections byte }
+/// The number that bytes are: from 1 up to `most`, in decimal digits alone.
+pub fn number_in(most: u32, bytes: &[u8]) -> Option<u32>
+    requires { most ≤ 1000000 }
+    ensures { result ≡ number_up_to most bytes.now }
 {
-    b'0' <= byte && byte <= b'9' && sections * 10 + (byte - b'0') as u32 <= MAX_SECTIONS
+    let mut number = 0;
+    for byte in bytes {
+        if !takes_digit(most, number, *byte) {
+            return None;
+        }
+        number = number * 10 + (*byte - b'0') as u32;
+    }
+    if 0 < number { Some(number) } else { None }
+}
+
+// Whether a byte is a digit, with which the number is no greater than `most`.
+fn takes_digit(most: u32, number: u32, byte: u8) -> bool
+    requires { number ≤ 1000000 }
+    ensures { result ≡ takes_digit most number byte }
+{
+    b'0' <= byte && byte <= b'9' && number * 10 + (byte - b'0') as u32 <= most
 }
