@@ -1,4 +1,4 @@
-use crate::net::net_of;
+use crate::net::{net_of, put_links};
 use crate::settings::{fails_of, settings_of, step_of};
 use case_data::mem_file;
 use case_table::{CaseOutput, CaseRow, CaseStop, pair_of, text_of};
@@ -25,7 +25,8 @@ const OUTPUT_STEP: u64 = 100;
 
 const LINES_STEP: u64 = 5;
 
-/// Writes what a call of `page_tool` gives: how a command ends and what it writes, and the number of a status.
+/// Writes what a call of `page_tool` gives: how a command ends and what it writes; the same and what the links of `serve` got; and the
+/// number of a status.
 pub fn put_commands<R: Threads + Wait + Sync>(
     rt: &R,
     out: &mut CaseOutput,
@@ -33,7 +34,15 @@ pub fn put_commands<R: Threads + Wait + Sync>(
     row: &CaseRow,
 ) -> Result<(), CaseStop> {
     match call {
-        "run" => put_run(rt, out, row),
+        "run" => {
+            put_run(rt, out, row)?;
+            Ok(())
+        }
+        "serve" => {
+            let net = put_run(rt, out, row)?;
+            put_links(out, &net);
+            Ok(())
+        }
         "code" => {
             out.put_count(status_of(row.text(0)?)?.code() as u64);
             Ok(())
@@ -42,19 +51,19 @@ pub fn put_commands<R: Threads + Wait + Sync>(
     }
 }
 
-// Writes what a command gives: the row has the files, the words, the input and the settings.
+// Writes what a command gives: the row has the files, the words, the input and the settings. The net comes back.
 fn put_run<R: Threads + Wait + Sync>(
     rt: &R,
     out: &mut CaseOutput,
     row: &CaseRow,
-) -> Result<(), CaseStop> {
+) -> Result<MemNet<MemLink>, CaseStop> {
     let alloc = out.alloc();
     let settings = settings_of(row.list(3)?)?;
     let words = words_of(alloc, row.part(1)?)?;
     let folder = folder_of(alloc, row.list(0)?, settings)?;
     let input = input_of(alloc, row, settings)?;
     let output = output_of(alloc, settings)?;
-    let net = net_of(alloc, settings)?;
+    let mut net = net_of(alloc, settings)?;
     let spawner: InlineSpawner<R> = InlineSpawner::new(fails_of(alloc, settings, "spawner fails")?);
     let seats = PackSeats::new(fails_of(alloc, settings, "seats fail")?);
     put_command(
@@ -64,10 +73,11 @@ fn put_run<R: Threads + Wait + Sync>(
         folder,
         input,
         output,
-        net,
+        &mut net,
         spawner,
         seats,
-    )
+    )?;
+    Ok(net)
 }
 
 // Writes how a command over these devices ends: the status with its number, the output, and the lines for people. The workers of `serve`
@@ -79,7 +89,7 @@ fn put_command<R: Threads + Wait + Sync>(
     folder: MemFolder,
     mut input: MemSource,
     mut output: MemSink,
-    mut net: MemNet<MemLink>,
+    net: &mut MemNet<MemLink>,
     mut spawner: InlineSpawner<R>,
     mut seats: PackSeats,
 ) -> Result<(), CaseStop> {
@@ -93,7 +103,7 @@ fn put_command<R: Threads + Wait + Sync>(
         &mut input,
         &mut output,
         &mut lines,
-        &mut net,
+        net,
         &mut spawner,
         &mut seats,
     );

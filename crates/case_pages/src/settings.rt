@@ -10,6 +10,7 @@ pub fn settings_of(settings: &[Datum]) -> Result<&[Datum], CaseStop> {
         match text_of(name)? {
             "folder fails" | "input fails" | "output fails" | "input step" | "output step" => {}
             "doors" | "net fails" | "seats fail" | "spawner fails" => {}
+            "door fails" | "link fails" => {}
             _ => return Err(CaseStop::Form),
         }
     }

@@ -1,5 +1,5 @@
 -- How `serve` ends: each status has its cause, excludes each other cause, and has its lines.
-use Rattle.std.proofs.Common.{◌≡◌, ◌≤◌, ℕ, true, List, [], ◌∷◌, Option, None, Some, Err, Ok, refl, sym, subst, inl, inr}
+use Rattle.std.proofs.Common.{◌≡◌, ◌≤◌, ℕ, true, List, [], ◌∷◌, Option, None, Some, Err, Ok, refl, sym, ap, ◌∙◌, subst, inl, inr}
 use Rattle.std.specs.Io.KnownBytes.{Appends}
 use Rattle.std.specs.Prelude.{IfSome, IsTrue, Result, ◌⊎◌, ⊤}
 use Rattle.page_check.specs.CheckedSets.{CheckedData}
@@ -98,7 +98,7 @@ begin_says held dir why s old new rose a (inl r) = inl r
 begin_says held dir why s old new rose a (inr e) = inr (says held dir why s old new a e)
 
 -- the same once the set was served
-pub served_blames : (rose : ServeFailures) (answer : Result ⊤ ServeStop) → ServeCause rose.net rose.spawner rose.seats rose.output answer
+served_blames : (rose : ServeFailures) (answer : Result ⊤ ServeStop) → ServeCause rose.net rose.spawner rose.seats rose.output answer
     → Blames rose (status_served answer)
 served_blames rose (Ok u) c = tt
 served_blames rose (Err serve.Net) c = c
@@ -107,12 +107,16 @@ served_blames rose (Err serve.Seat) c = c
 served_blames rose (Err serve.Write) c = c
 served_blames rose (Err serve.Memory) c = tt
 
-pub loaded_set : (held : Option FolderContents) (dir : List ℕ) (set : CheckedData) → IfSome held (λ h. IsLoadedSetOf h dir set)
+pub ended_blames : (rose : ServeFailures) (answer : Result ⊤ ServeStop) (s : Status) → s ≡ status_served answer
+    → ServeCause rose.net rose.spawner rose.seats rose.output answer → Blames rose s
+ended_blames rose answer s is c = subst (Blames rose) (sym is) (served_blames rose answer c)
+
+loaded_set : (held : Option FolderContents) (dir : List ℕ) (set : CheckedData) → IfSome held (λ h. IsLoadedSetOf h dir set)
     → IfSome held (λ h. IsSet h dir)
 loaded_set None dir set is = tt
 loaded_set (Some h) dir set is = (set, is)
 
-pub served_cause : (held : Option FolderContents) (dir : List ℕ) (answer : Result ⊤ ServeStop) → IfSome held (λ h. IsSet h dir)
+served_cause : (held : Option FolderContents) (dir : List ℕ) (answer : Result ⊤ ServeStop) → IfSome held (λ h. IsSet h dir)
     → ServeStatusCause held dir (status_served answer)
 served_cause held dir (Ok u) is = is
 served_cause held dir (Err serve.Net) is = is
@@ -120,6 +124,11 @@ served_cause held dir (Err serve.Spawn) is = is
 served_cause held dir (Err serve.Seat) is = is
 served_cause held dir (Err serve.Write) is = is
 served_cause held dir (Err serve.Memory) is = tt
+
+pub ended_cause : (held : Option FolderContents) (dir : List ℕ) (answer : Result ⊤ ServeStop) (s : Status) (set : CheckedData)
+    → s ≡ status_served answer → IfSome held (λ h. IsLoadedSetOf h dir set) → ServeStatusCause held dir s
+ended_cause held dir answer s set is made =
+    subst (ServeStatusCause held dir) (sym is) (served_cause held dir answer (loaded_set held dir set made))
 
 served_lines : (held : Option FolderContents) (dir : List ℕ) (answer : Result ⊤ ServeStop)
     → ServeLines held dir (status_served answer) (serve_text answer)
@@ -191,6 +200,12 @@ serve_free held dir status.Memory c a = cc
 pub serve_needs : (held : Option FolderContents) (dir : List ℕ) (s : Status) → ServeStatusCause held dir s → s ≡ status.SetRefused
     → IfSome held (λ h. HaveNoError (files_of h dir).list → ⊥)
 serve_needs held dir s c e = refused_free held dir (subst (λ (x : Status). ServeStatusCause held dir x) e c)
+
+-- a folder that is the one with which the first set was made is as before
+pub same_folder : {F : Type 0} (held : F → Option FolderContents) (faults : F → ℕ) (first begun last : F) → held begun ≡ held first
+    → faults first ≤ faults begun → last ≡ begun → (held last ≡ held first) × (faults first ≤ faults last)
+same_folder held faults first begun last kept later same =
+    (ap held same ∙ kept, subst (λ (f : F). faults first ≤ faults f) (sym same) later)
 
 -- what was done
 module _ {D L : Type 0} (told : D → Option (DoorTold L)) (door_faults : D → ℕ) (left taken : L → Option (List ℕ)) (link_faults : L → ℕ) where

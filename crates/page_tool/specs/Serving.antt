@@ -40,10 +40,10 @@ serve_failures before after serve_before serve_after = record {
   seats = Rose serve_before.seats_faults serve_after.seats_faults;
 }
 
--- no worker was asked for, and nothing was written
+-- there was no set to serve: neither the net, the spawner nor the seats were asked for anything, and nothing was written
 pub record IsUnserved {D : Type 0} (before after : Devices) (serve_before serve_after : ServeDevices D) : Type 0 where
-  pub doors : serve_after.doors ≡ serve_before.doors
-  pub unwritten : after.taken ≡ before.taken
+  pub unasked : serve_after ≡ serve_before
+  pub unwritten : (after.taken ≡ before.taken) × (after.output_faults ≡ before.output_faults)
   pub folder : IsFolderAsBefore before after
 
 module _ {D L : Type 0} (told : D → Option (DoorTold L)) (door_faults : D → ℕ)
