@@ -2,10 +2,11 @@
 use Rattle.std.proofs.Common.{arith, ◌≡◌, ◌⊎◌, ◌<◌, ◌≤◌, ℕ, ◌+◌, ◌-◌, ◌^◌, min, List, [], ◌∷◌, ◌++◌, length, reverse, map, Option, None, Some, IfSome, inl, inr, refl, sym, ap, ◌∙◌, subst, append_assoc, append-nil, length-append}
 use Rattle.std.proofs.lemmas.List.{reverse-append}
 use Rattle.page_io.specs.Causes.{Rose}
+use Rattle.page_net.specs.Doors.{DoorTold}
 use Rattle.page_net.specs.Nets.{NetTold, CountsDoor, HasDoorOut, IsNetBounded, TakesDoorBack}
 use Rattle.page_net.specs.Tellings.{BothTold}
 use Rattle.page_worker.proofs.LinkByLink.{told_own, told_then}
-use Rattle.page_serve.specs.DoorMoves.{HasFailedDoor, HaveDoorsOut, MovesDoors}
+use Rattle.page_serve.specs.DoorMoves.{AreFreshDoors, HasFailedDoor, HaveDoorsOut, MovesDoors, ReturnsDoors}
 
 -- a count that rose has risen still, however it rises before or after
 pub rose_before : (a b c : ℕ) → a ≤ b → Rose b c → Rose a c
@@ -115,3 +116,19 @@ module _ {D : Type 0} where
   given_out n None (Some y) h p = absurd p
   given_out n (Some x) None h p = absurd p
   given_out n (Some x) (Some y) h p = omega (arith, h, p.given, ap length p.back, length-append x.back [])
+
+  module _ {L : Type 0} (faults : D → ℕ) (told : D → Option (DoorTold L)) where
+    -- no door was given, and none has to go back
+    pub none_returned : (count : ℕ) (a : Option (NetTold D)) → ReturnsDoors faults told count a a
+    none_returned count a = record { doors = []; within = omega arith; fresh = tt; back = none_given a }
+
+    -- the doors that were given before one was not are back
+    pub some_returned : (n count : ℕ) (doors : List D) (a b c : Option (NetTold D)) → length doors ≡ n → n ≤ count
+        → AreFreshDoors faults told doors → BothTold a b (λ o w. MovesDoors o w n []) → BothTold b c (λ o w. MovesDoors o w 0 doors)
+        → ReturnsDoors faults told count a c
+    some_returned n count doors a b c long within fresh given back = record {
+      doors = doors;
+      within = omega (arith, long, within);
+      fresh = fresh;
+      back = all_returned (length doors) doors a b c (subst (λ (m : ℕ). BothTold a b (λ o w. MovesDoors o w m [])) (sym long) given) back;
+    }
