@@ -63,11 +63,7 @@ pub fn put_links(out: &mut CaseOutput, net: &MemNet<MemLink>) {
 }
 
 // A door of what its links give.
-fn door_of(
-    alloc: Global,
-    links: &[Datum],
-    settings: &[Datum],
-) -> Result<MemDoor<MemLink>, CaseStop>
+fn door_of(alloc: Global, links: &[Datum], settings: &[Datum]) -> Result<MemDoor<MemLink>, CaseStop>
     ensures { IfOk result (λ d. IsFreshDoor (⟦<MemDoor<MemLink> as Door>⟧.faults d)
         (⟦<MemDoor<MemLink> as Door>⟧.told d)) }
 {
