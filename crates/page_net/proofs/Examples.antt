@@ -83,7 +83,7 @@ not_fresh h = search (rules, h.unserved)
 
 -- a net counts a door that failed, once, and no other
 counts_one : CountsDoor 3 4 2
-counts_one = record { failed = λ _. omega arith; fine = λ is. search (rules, is) }
+counts_one = record { later = omega arith; failed = λ _. omega arith; fine = λ is. search (rules, is) }
 
 forgets_one : CountsDoor 3 3 2 → ⊥
 forgets_one h = omega (arith, h.failed (omega arith))
@@ -92,4 +92,4 @@ counts_without_cause : CountsDoor 3 4 0 → ⊥
 counts_without_cause h = omega (arith, h.fine refl)
 
 stands_at_the_end : CountsDoor (2 ^ 64 - 1) (2 ^ 64 - 1) 1
-stands_at_the_end = record { failed = λ _. omega arith; fine = λ _. refl }
+stands_at_the_end = record { later = omega arith; failed = λ _. omega arith; fine = λ _. refl }

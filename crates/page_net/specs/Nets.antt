@@ -25,7 +25,8 @@ HasDoorOut told = IfSome told (λ t. length t.back < t.given)
 abbrev pub IsNetBounded : {D : Type 0} → Option (NetTold D) → Type 0
 IsNetBounded told = IfSome told (λ t. length t.back ≤ t.given)
 
--- the count of a net that takes back a door rises exactly where that door failed
+-- the count of a net that takes back a door never falls, and rises exactly where that door failed
 pub record CountsDoor (before now door_faults : ℕ) : Type 0 where
+  pub later : before ≤ now
   pub failed : 0 < door_faults → Rose before now
   pub fine : door_faults ≡ 0 → now ≡ before

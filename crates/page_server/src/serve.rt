@@ -146,7 +146,7 @@ pub fn serve_link<
     J: Named,
     C: Clerk<P, S, J>,
     L: Link,
-    R: Wait + Sync,
+    R: Wait,
 >(alloc: Global, rt: &R, viewer: &mut Viewer<P, S>, clerk: &mut C, link: &mut L) -> LinkEnd
     requires { viewer.old.book ≡ J.desk }
     ensures serves { ServesLink (AnswersBySet P.execution P.made_of P.is_execution P.is_sound)

@@ -1,0 +1,3 @@
+pub mod DoorWorks
+mod Examples
+pub mod LinkByLink
