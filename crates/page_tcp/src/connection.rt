@@ -94,7 +94,6 @@ impl Connection {
     /// then lose what was written last: so the connection waits until the client closes it too.
     pub fn hang_up<R: Clock>(&mut self, clock: &R) {
         let is_ended = self.stream.shutdown(Shutdown::Write).is_ok()
-            && self.stream.set_nonblocking(true).is_ok()
             && self.wait_for(Awaited::Close, clock).is_ok();
         if !is_ended {
             self.awaited = Awaited::Nothing;

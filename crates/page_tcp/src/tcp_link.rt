@@ -50,9 +50,12 @@ impl<'r, R: Clock> TcpLink<'r, R> {
     }
 
     /// The connection, which waits for what comes where the link ended between two requests, and else for its end.
-    pub fn leave(self) -> Connection {
+    pub fn leave(mut self) -> Connection {
+        let can_wait = self.unblock();
         let mut connection = self.connection;
-        if !self.is_left {
+        if !can_wait {
+            connection.awaited = Awaited::Nothing;
+        } else if !self.is_left {
             connection.hang_up(self.clock);
         }
         connection
