@@ -1,6 +1,8 @@
 use crate::connection::{Awaited, Connection};
 use crate::head::holds_head;
+use crate::table::ConnectionTable;
 use crate::tcp_net::TcpNet;
+use mio::Poll;
 use page_io::Failed;
 use page_net::{Came, Door, Link, Net, write_all};
 use std::alloc::Global;
@@ -287,6 +289,33 @@ fn connections_wait_for_a_time(rt: HostRuntime) -> Result<(), Fail> {
         };
         assert!(rt; !connection.is_overdue(early));
         assert!(rt; connection.is_overdue(late));
+    }
+    Ok(())
+}
+
+// Whether a read of this connection gives its end.
+fn is_ended(stream: &mut TcpStream) -> bool {
+    let mut buffer = [0; 1];
+    stream.read(&mut buffer).is_ok_and(|count| count == 0)
+}
+
+#[test]
+fn the_oldest_idle_connection_is_closed(rt: HostRuntime) -> Result<(), Fail> {
+    let alloc = rt.alloc();
+    let poll = Poll::new(&rt)?;
+    let mut table = ConnectionTable::new(alloc, poll.registry().try_clone()?)?;
+    assert!(rt; !table.drop_oldest());
+    let listener: TcpListener = TcpListener::bind(&rt, "127.0.0.1:0")?;
+    let mut clients = connections(&rt, alloc, listener.local_addr()?, 3)?;
+    for _ in &clients {
+        let (stream, _) = listener.accept()?;
+        table.put(Connection::new(stream, &rt)?);
+    }
+    assert!(rt; table.drop_oldest());
+    for (number, client) in clients.iter_mut().enumerate() {
+        // A read of the others would wait.
+        client.set_nonblocking(number > 0)?;
+        assert!(rt; is_ended(client) == (number == 0));
     }
     Ok(())
 }
