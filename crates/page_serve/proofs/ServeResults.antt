@@ -12,7 +12,7 @@ use Rattle.page_serve.specs.SummaryLines.{has_door_fault}
 use Rattle.page_serve.specs.Workers.{HaveServed, IsSpawnStop, doors_of_ends}
 use Rattle.page_serve.specs.declared.stop.ServeStop.{ServeStop}
 use Rattle.page_serve.specs.declared.stop.ServeStop.TheVariants as stop
-use Rattle.page_serve.proofs.DoorMoving.{all_returned}
+use Rattle.page_serve.proofs.DoorMoving.{all_returned, none_returned}
 
 -- why a report stops
 pub report_cause : {D : Type 0} (es : List (Ended D)) (out0 out : Option (List ℕ)) (failed net spawn outs : Type 0) (r : Result (Unit {0}) ServeStop)
@@ -137,3 +137,8 @@ module _ {V D L : Type 0}
       kept_weaker sets count most before after out0 out kept r
       (subst (λ (n : ℕ). ServeAnswers told door_faults answers left taken link_faults sets n most before after out0 out ⊥ r) takes.count_is
         (serves (subst (λ (n : ℕ). BothTold before now (λ o w. MovesDoors o w n [])) (sym takes.count_is) takes.given)))
+
+  -- there was no memory for a desk
+  pub nothing_served : (sets : List V) (count most : ℕ) (old : Option (NetTold D)) (out : Option (List ℕ)) (kept : Type 0)
+      → ServeAnswers told door_faults answers left taken link_faults sets count most old old out out kept (Err stop.Memory)
+  nothing_served sets count most old out kept = inl (record { back = none_returned door_faults told count old; unwritten = refl })
