@@ -115,7 +115,7 @@ where
     requires { desk.book ≡ J.desk }
     ensures answers { ServeAnswers N.Door.told N.Door.faults
         (AnswersBySet P.execution P.made_of P.is_execution P.is_sound)
-        N.Door.Link.left N.Door.Link.taken N.Door.Link.faults desk.entry.sets workers links
+        N.Door.Link.left N.Door.Link.taken N.Door.Link.faults desk.sets workers links
         (N.told net.old) (N.told net.new) (O.taken out.old) (O.taken out.new)
         (result.1 ≡ folder) result.0 }
     ensures cause { ServeCause (Rose (N.faults net.old) (N.faults net.new))
