@@ -1,1 +1,2 @@
 pub mod CharacterCounts
+pub mod ParsedFiles

@@ -13,6 +13,7 @@ use tpl_tree::Forest;
 /// Writes what a call of `place_infer` gives: the `chart` of files, each a list of a name and a text, whose own templates
 /// are the roots; or that the set is refused, for one path or two (`error`), for the `end` of a root, or for `too many`
 /// pairs; `shown` writes the refusal with its paths.
+#[tactic(auto, using(crate::proofs::ParsedFiles::breaks_stand))]
 pub fn put_charts(out: &mut CaseOutput, call: &str, row: &CaseRow) -> Result<(), CaseStop> {
     if call != "chart" && call != "shown" {
         return Err(CaseStop::Form);

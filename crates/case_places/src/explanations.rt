@@ -7,6 +7,7 @@ use tpl_tree::Forest;
 
 /// Writes what a call of `place_explain` gives: what `explain` says of a root, by its name, in the chart of files, each a
 /// list of a name and a text; or that the set is refused.
+#[tactic(auto, using(crate::proofs::ParsedFiles::breaks_stand))]
 pub fn put_explained(out: &mut CaseOutput, call: &str, row: &CaseRow) -> Result<(), CaseStop> {
     if call != "explain" {
         return Err(CaseStop::Form);

@@ -1,3 +1,6 @@
+ghost use Rattle.std.specs.Prelude.{IfOk, IfSome};
+ghost use Rattle.case_templates.specs.ParsedFiles.{IsOfParsedFiles, IsParsedFile};
+
 use crate::forests::{files_of_definitions, put_forest};
 use crate::nodes::{put_nodes, put_place};
 use case_table::{CaseOutput, CaseRow, CaseStop, pair_of, text_of};
@@ -101,7 +104,9 @@ fn line_in(tree: &Tree, node: u32, byte: u32) -> Option<u32> {
 }
 
 /// The forest of files, each a list of a name and a text, or nothing where one of them is refused.
-pub fn forest_of(alloc: Global, files: &[Datum]) -> Result<Option<Forest>, CaseStop> {
+pub fn forest_of(alloc: Global, files: &[Datum]) -> Result<Option<Forest>, CaseStop>
+    ensures { IfOk result (λ made. IfSome made IsOfParsedFiles) }
+{
     let mut list = List::new(alloc);
     for file in files {
         let (name, text) = pair_of(file)?;
@@ -114,7 +119,9 @@ pub fn forest_of(alloc: Global, files: &[Datum]) -> Result<Option<Forest>, CaseS
 }
 
 /// The definitions of a file with this name and text, or nothing where it is refused.
-pub fn file_of(alloc: Global, name: &str, text: &str) -> Result<Option<File>, CaseStop> {
+pub fn file_of(alloc: Global, name: &str, text: &str) -> Result<Option<File>, CaseStop>
+    ensures { IfOk result (λ read. IfSome read IsParsedFile) }
+{
     if !fits(text) {
         return Ok(None);
     }

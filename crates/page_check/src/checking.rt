@@ -67,7 +67,8 @@ fn checked_set(alloc: Global, files: Files) -> Result<Checked, MakeRefused>
 
 // The chart of the roots of files with these templates.
 fn chart_roots(alloc: Global, files: &[NamedFile], forest: &Forest) -> Result<Chart, MakeRefused>
-    ensures { IsForestOf files.now forest.now → ChartRootsAnswers files.now forest.now result }
+    requires { IsForestOf files.now forest.now }
+    ensures { ChartRootsAnswers files.now forest.now result }
 {
     if forest.count() > MAX_NAMES {
         return Err(MakeRefused::TooManyTemplates);

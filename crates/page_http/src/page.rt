@@ -1,4 +1,5 @@
-ghost use Rattle.std.specs.Prelude.{◌≡◌, IfOk};
+ghost use Rattle.std.specs.Prelude.{◌≡◌, ◌++◌, ◌∷◌, [], IfOk, codes};
+ghost use Rattle.std.specs.Fmt.{decimal};
 ghost use Rattle.page_datum.specs.View.{view};
 ghost use Rattle.page_http.specs.Pages.{IsPage};
 ghost use Rattle.page_http.specs.Pages as spec;
@@ -6,7 +7,7 @@ ghost use Rattle.page_http.specs.Replies.{IsSendable};
 
 use crate::body_sink::BodySink;
 use crate::refusal::phrase_reply;
-use crate::reply::{Allow, Reply};
+use crate::reply::{Allow, Reply, push_number};
 use page_datum::{Datum, ExecFault, PageStop, Pages, legible};
 use page_io::{Bytes, Memory};
 use std::alloc::Global;
@@ -77,12 +78,24 @@ pub fn number_reply(alloc: Global, number: u64) -> Result<Reply, Memory>
     ensures reply { IfOk result (λ reply. reply ≡ spec.number_reply number) }
     ensures sendable { IfOk result IsSendable }
 {
-    let body = format!(in alloc; "set {number}\n")?;
+    let body = number_body(alloc, number)?;
     Ok(Reply {
         status: 200,
         html: false,
         number,
         allow: Allow::Nothing,
-        body: Bytes::from(body.into_bytes()),
+        body,
     })
+}
+
+// More than the bytes of a number, and what stands round it.
+const NUMBER_ROOM: usize = 32;
+
+fn number_body(alloc: Global, number: u64) -> Result<Bytes, Memory>
+    ensures { IfOk result (λ body. body ≡ codes "set " ++ (decimal number ++ 10 ∷ [])) }
+{
+    let mut body = Vec::with_capacity(alloc, NUMBER_ROOM)?;
+    push_number(&mut body, b"set ", number)?;
+    body.extend_from_slice(b"\n")?;
+    Ok(Bytes::from(body))
 }

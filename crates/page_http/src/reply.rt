@@ -1,6 +1,6 @@
-ghost use Rattle.std.specs.Prelude.{◌≡◌, ◌≢◌, ◌↔◌, ◌++◌, IsTrue, IfOk, OnOk};
+ghost use Rattle.std.specs.Prelude.{◌≡◌, ◌≢◌, ◌↔◌, ◌++◌, IsTrue, IfOk, OnOk, codes};
 ghost use Rattle.std.specs.Fmt.{decimal};
-ghost use Rattle.page_http.specs.Replies.{IsReplyStatus, IsSendable, field_line, reply_text};
+ghost use Rattle.page_http.specs.Replies.{IsReplyStatus, IsSendable, reply_text};
 ghost use Rattle.page_http.specs.Replies.{status_line};
 ghost use Rattle.page_http.specs.Replies as spec;
 ghost use Rattle.page_http.specs.declared.reply.Allow.TheVariants as allow;
@@ -113,48 +113,46 @@ pub(crate) fn phrase(status: u16) -> &'static str
 fn push_fields(out: &mut Vec<u8>, reply: &Reply, close: bool) -> Result<(), Memory>
     ensures { OnOk result (out.new.items ≡ out.old.items ++ spec.fields reply.now close) }
 {
-    out.extend_from_slice(content_type(reply.html))?;
-    push_number(out, b"Content-Length", reply.body.len() as u64)?;
-    push_number(out, b"Set-Number", reply.number)?;
-    out.extend_from_slice(allowed(reply.status, reply.allow))?;
+    push_number(out, before_length(reply.html), reply.body.len() as u64)?;
+    push_number(out, b"\r\nSet-Number: ", reply.number)?;
+    out.extend_from_slice(after_number(reply.status, reply.allow))?;
     out.extend_from_slice(connection(close))?;
     Ok(())
 }
 
-// Appends a field whose value is a number.
-fn push_number(out: &mut Vec<u8>, name: &[u8], number: u64) -> Result<(), Memory>
-    ensures { OnOk result
-        (out.new.items ≡ out.old.items ++ field_line name.now (decimal number)) }
+// Appends what stands before a number, and the number.
+pub(crate) fn push_number(out: &mut Vec<u8>, before: &[u8], number: u64) -> Result<(), Memory>
+    ensures { OnOk result (out.new.items ≡ out.old.items ++ (before.now ++ decimal number)) }
 {
     let mut digits = Buffer::new();
-    out.extend_from_slice(name)?;
-    out.extend_from_slice(b": ")?;
+    out.extend_from_slice(before)?;
     out.extend_from_slice(digits.format(number).as_bytes())?;
-    out.extend_from_slice(b"\r\n")?;
     Ok(())
 }
 
-fn content_type(html: bool) -> &'static [u8]
-    ensures { result.now ≡ spec.content_type html }
+// The field of the type, and the name of the one of the length.
+fn before_length(html: bool) -> &'static [u8]
+    ensures { result.now ≡ spec.content_type html ++ codes "Content-Length: " }
 {
     if html {
-        b"Content-Type: text/html; charset=utf-8\r\n"
+        b"Content-Type: text/html; charset=utf-8\r\nContent-Length: "
     } else {
-        b"Content-Type: text/plain; charset=utf-8\r\n"
+        b"Content-Type: text/plain; charset=utf-8\r\nContent-Length: "
     }
 }
 
-fn allowed(status: u16, allow: Allow) -> &'static [u8]
-    ensures { result.now ≡ spec.allowed status allow }
+// The end of the line of the number, and the field of the methods.
+fn after_number(status: u16, allow: Allow) -> &'static [u8]
+    ensures { result.now ≡ spec.crlf ++ spec.allowed status allow }
 {
     if status != 405 {
-        return b"";
+        return b"\r\n";
     }
     match allow {
-        Allow::Nothing => b"",
-        Allow::Get => b"Allow: GET\r\n",
-        Allow::Post => b"Allow: POST\r\n",
-        Allow::GetPost => b"Allow: GET, POST\r\n",
+        Allow::Nothing => b"\r\n",
+        Allow::Get => b"\r\nAllow: GET\r\n",
+        Allow::Post => b"\r\nAllow: POST\r\n",
+        Allow::GetPost => b"\r\nAllow: GET, POST\r\n",
     }
 }
 

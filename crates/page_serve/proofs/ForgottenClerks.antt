@@ -1,5 +1,5 @@
 -- How workers ended, whatever their clerks, which tell no replies.
-use Rattle.std.proofs.Common.{◌≡◌, ℕ, Bool, true, false, List, [], ◌∷◌, map, Option, None, refl, ap, ◌∙◌}
+use Rattle.std.proofs.Common.{◌≡◌, ℕ, Bool, true, false, List, [], ◌∷◌, map, Option, None, refl, sym, ap, ◌∙◌, subst}
 use Rattle.page_net.specs.Doors.{DoorTold}
 use Rattle.page_server.specs.Answering.{Answering}
 use Rattle.page_spawn.specs.Ends.{AllFulfil}
@@ -79,3 +79,13 @@ module _ {V D L : Type 0} (answers : Answering V)
     are_at = forgotten_at doors viewers most ws at;
     ended = forgotten_ends ws es ends;
   }
+
+  -- the same where the lists come by other names
+  pub workers_end_by : (doors ds : List D) (viewers vs : List (Watched V)) (most : ℕ) (ws wv : List (DoorWorker V D C)) (es : List (Ended D))
+      → ds ≡ doors → vs ≡ viewers → ws ≡ wv → AreWorkersAt ds vs most wv → AllFulfil EndsUntold ws es
+      → WorkersEnd answers told door_faults left taken link_faults doors viewers most es
+  workers_end_by doors ds viewers vs most ws wv es d v w at ends =
+      workers_end doors viewers most ws es
+      (subst (λ (z : List D). AreWorkersAt z viewers most ws) d
+      (subst (λ (z : List (Watched V)). AreWorkersAt ds z most ws) v
+      (subst (λ (z : List (DoorWorker V D C)). AreWorkersAt ds vs most z) (sym w) at))) ends

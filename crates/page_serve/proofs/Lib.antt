@@ -1,5 +1,6 @@
 pub mod DoorMoving
 pub mod Examples
 pub mod ForgottenClerks
+pub mod Queues
 pub mod ServedDoors
 pub mod ServeResults

@@ -6,13 +6,13 @@ use Rattle.page_net.specs.Tellings.{BothTold}
 use Rattle.page_server.specs.Answering.{Answering}
 use Rattle.page_worker.specs.declared.ended.Ended.{Ended}
 use Rattle.set_publisher.specs.Values.{Published, Watched}
-use Rattle.page_serve.specs.DoorMoves.{AreFreshDoors, HasFailedDoor, MovesDoors, ReturnsDoors}
+use Rattle.page_serve.specs.DoorMoves.{AreFreshDoors, MovesDoors, ReturnsDoors, TakesDoors}
 use Rattle.page_serve.specs.ServeAnswers.{IsDoneOrOutOfMemory, NoneServes, PlacesAnswers, ReportAnswers, ServeAnswers, ServeCause}
 use Rattle.page_serve.specs.SummaryLines.{has_door_fault}
 use Rattle.page_serve.specs.Workers.{HaveServed, IsSpawnStop, doors_of_ends}
 use Rattle.page_serve.specs.declared.stop.ServeStop.{ServeStop}
 use Rattle.page_serve.specs.declared.stop.ServeStop.TheVariants as stop
-use Rattle.page_serve.proofs.DoorMoving.{all_returned}
+use Rattle.page_serve.proofs.DoorMoving.{all_returned, none_returned}
 
 -- why a report stops
 pub report_cause : {D : Type 0} (es : List (Ended D)) (out0 out : Option (List ℕ)) (failed net spawn outs : Type 0) (r : Result (Unit {0}) ServeStop)
@@ -42,6 +42,15 @@ none_rose net spawn seats outs (Err stop.Spawn) h n s q o = absurd (s h)
 none_rose net spawn seats outs (Err stop.Seat) h n s q o = absurd (q h)
 none_rose net spawn seats outs (Err stop.Write) h n s q o = absurd (o h)
 none_rose net spawn seats outs (Err stop.Memory) h n s q o = tt
+
+-- why a door or a place was not given
+pub place_cause : {T U : Type 0} (net spawn seats outs : Type 0) (s : ServeStop) → ServeCause {T = T} net ⊥ seats ⊥ (Err s)
+    → ServeCause {T = U} net spawn seats outs (Err s)
+place_cause net spawn seats outs stop.Net h = h
+place_cause net spawn seats outs stop.Spawn h = absurd h
+place_cause net spawn seats outs stop.Seat h = h
+place_cause net spawn seats outs stop.Write h = absurd h
+place_cause net spawn seats outs stop.Memory h = tt
 
 -- a cause of a stage is one of the whole
 pub cause_weaker : {U : Type 0} (n1 s1 q1 o1 n2 s2 q2 o2 : Type 0) (r : Result U ServeStop)
@@ -89,6 +98,13 @@ module _ {V D L : Type 0}
     back = all_returned (length doors) doors before now after given back;
   }
 
+  -- the same where the doors that went back are these by another name
+  pub closed_back : (doors ds : List D) (before now after : Option (NetTold D)) → ds ≡ doors → AreFreshDoors door_faults told doors
+      → BothTold before now (λ o n. MovesDoors o n (length doors) []) → BothTold now after (λ o n. MovesDoors o n 0 ds)
+      → ReturnsDoors door_faults told (length doors) before after
+  closed_back doors ds before now after same fresh given back =
+      given_back doors before now after fresh given (subst (λ (z : List D). BothTold now after (λ o n. MovesDoors o n 0 z)) same back)
+
   -- a door or a place was not given
   pub no_places : (desk : Published V) (sets : List V) (count most : ℕ) (old now : Option (NetTold D)) (out : Option (List ℕ)) (kept : Type 0)
       (s : ServeStop) → PlacesAnswers told door_faults desk count old now (Err s) → kept
@@ -110,3 +126,19 @@ module _ {V D L : Type 0}
   kept_weaker sets count most old now out0 out kept (Err stop.Seat) h = absurd h.1
   kept_weaker sets count most old now out0 out kept (Err stop.Write) h = h
   kept_weaker sets count most old now out0 out kept (Err stop.Memory) h = h
+
+  -- workers served, or none has run, at the doors that were given for so many
+  pub places_served : (sets : List V) (count most : ℕ) (doors : List D) (before now after : Option (NetTold D)) (out0 out : Option (List ℕ))
+      (kept : Type 0) (r : Result (Unit {0}) ServeStop) → TakesDoors door_faults told count before now doors
+      → (BothTold before now (λ o n. MovesDoors o n (length doors) [])
+      → ServeAnswers told door_faults answers left taken link_faults sets (length doors) most before after out0 out ⊥ r)
+      → ServeAnswers told door_faults answers left taken link_faults sets count most before after out0 out kept r
+  places_served sets count most doors before now after out0 out kept r takes serves =
+      kept_weaker sets count most before after out0 out kept r
+      (subst (λ (n : ℕ). ServeAnswers told door_faults answers left taken link_faults sets n most before after out0 out ⊥ r) takes.count_is
+      (serves (subst (λ (n : ℕ). BothTold before now (λ o w. MovesDoors o w n [])) (sym takes.count_is) takes.given)))
+
+  -- there was no memory for a desk
+  pub nothing_served : (sets : List V) (count most : ℕ) (old : Option (NetTold D)) (out : Option (List ℕ)) (kept : Type 0)
+      → ServeAnswers told door_faults answers left taken link_faults sets count most old old out out kept (Err stop.Memory)
+  nothing_served sets count most old out kept = inl (record { back = none_returned door_faults told count old; unwritten = refl })

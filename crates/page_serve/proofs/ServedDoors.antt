@@ -43,6 +43,13 @@ module _ {V D L : Type 0} (answers : Answering V)
     served_each ws es sets most ls.1 fs.1 vs.1 h.1,
   )
 
+  -- there are as many ends as doors
+  pub as_many_ends : (doors : List D) (viewers : List (Watched V)) (most : ℕ) (es : List (Ended D))
+      → WorkersEnd answers told door_faults left taken link_faults doors viewers most es → length es ≡ length doors
+  as_many_ends doors viewers most es w =
+      length-ends (HasEnded answers told door_faults left taken link_faults) w.workers es w.ended
+      ∙ sym (length-map w.workers (λ v. v.door)) ∙ ap length w.are_at.doors_are
+
   -- workers at doors as their net gave them have served, and the doors are back
   pub have_served : (doors : List D) (viewers : List (Watched V)) (most : ℕ) (es : List (Ended D)) (sets : List V)
       (before now after : Option (NetTold D))
@@ -52,11 +59,10 @@ module _ {V D L : Type 0} (answers : Answering V)
       → BothTold now after (λ o n. MovesDoors o n 0 (doors_of_ends es))
       → HaveServed answers told door_faults left taken link_faults sets (length doors) most before after es
   have_served doors viewers most es sets before now after w fresh seen given back = record {
-    count_is = length-ends (HasEnded answers told door_faults left taken link_faults) w.workers es w.ended
-      ∙ sym (length-map w.workers (λ v. v.door)) ∙ ap length w.are_at.doors_are;
+    count_is = as_many_ends doors viewers most es w;
     served = served_each w.workers es sets most w.are_at.links_are
-      (subst (λ (ds : List D). AreFreshDoors door_faults told ds) (sym w.are_at.doors_are) fresh)
-      (subst (λ (vs : List (Watched V)). Each (λ viewer. viewer.sets ≡ sets) vs) (sym w.are_at.viewers_are) seen) w.ended;
+        (subst (λ (ds : List D). AreFreshDoors door_faults told ds) (sym w.are_at.doors_are) fresh)
+        (subst (λ (vs : List (Watched V)). Each (λ viewer. viewer.sets ≡ sets) vs) (sym w.are_at.viewers_are) seen) w.ended;
     back = all_returned (length doors) (doors_of_ends es) before now after given back;
   }
 
@@ -64,7 +70,7 @@ module _ {V D L : Type 0} (answers : Answering V)
       → HasEnded answers told door_faults left taken link_faults w e → e.end.door_fault ≡ true → 0 < door_faults e.door
   fault_fails w e fresh h failed =
       let rose : Rose (door_faults w.door) (door_faults h.left_off.door) =
-        subst (λ (b : Bool). StopsWork answers told door_faults left taken link_faults (λ (c : Unit {0}). None) w h.left_off e.end.links b) failed h.serves.stops in
+      subst (λ (b : Bool). StopsWork answers told door_faults left taken link_faults (λ (c : Unit {0}). None) w h.left_off e.end.links b) failed h.serves.stops in
       omega (arith, fresh, rose, ap door_faults h.door_is)
 
   first_or_later : (e : Ended D) (es : List (Ended D)) → (e.end.door_fault ≡ true → 0 < door_faults e.door)

@@ -115,7 +115,7 @@ where
     requires { desk.book ≡ J.desk }
     ensures answers { ServeAnswers N.Door.told N.Door.faults
         (AnswersBySet P.execution P.made_of P.is_execution P.is_sound)
-        N.Door.Link.left N.Door.Link.taken N.Door.Link.faults desk.entry.sets workers links
+        N.Door.Link.left N.Door.Link.taken N.Door.Link.faults desk.sets workers links
         (N.told net.old) (N.told net.new) (O.taken out.old) (O.taken out.new)
         (result.1 ≡ folder) result.0 }
     ensures cause { ServeCause (Rose (N.faults net.old) (N.faults net.new))
@@ -211,9 +211,9 @@ where
         → Each (λ viewer. viewer.sets ≡ sets) viewers
         → BothTold before (N.told net.old) (λ old now. MovesDoors old now (length doors) [])
         → ServeAnswers N.Door.told N.Door.faults
-            (AnswersBySet P.execution P.made_of P.is_execution P.is_sound)
-            N.Door.Link.left N.Door.Link.taken N.Door.Link.faults sets (length doors) links
-            before (N.told net.new) (O.taken out.old) (O.taken out.new) ⊥ result }
+        (AnswersBySet P.execution P.made_of P.is_execution P.is_sound)
+        N.Door.Link.left N.Door.Link.taken N.Door.Link.faults sets (length doors) links
+        before (N.told net.new) (O.taken out.old) (O.taken out.new) ⊥ result }
     ensures cause { ServeCause (Rose (N.faults net.old) (N.faults net.new))
         (Rose (T.faults spawn.old) (T.faults spawn.new)) ⊥
         (Rose (O.faults out.old) (O.faults out.new)) result }

@@ -1,5 +1,5 @@
 // The workers, one at each door.
-ghost use Rattle.std.specs.Prelude.{◌≡◌, ◌≤◌, [], length, map, vec_len, vec_capacity};
+ghost use Rattle.std.specs.Prelude.{◌≡◌, ◌≤◌, [], length, map, reverse, vec_len, vec_capacity};
 ghost use Rattle.page_io.specs.Causes.{Rose};
 ghost use Rattle.page_server.specs.Answering.{AnswersBySet};
 ghost use Rattle.page_spawn.specs.Gates.{Each};
@@ -17,8 +17,15 @@ use std::alloc::Global;
 use std::sync::Wait;
 
 /// A worker whose clerk asks an office.
-pub type OfficeWorker<'r, D, F, P, J, R> =
-    PageWorker<'r, D, P, Told<P>, OfficeClerk<'r, F, P, Told<P>, J>, J, R>;
+pub type OfficeWorker<'r, D, F, P, J, R> = PageWorker<
+    'r,
+    D,
+    P,
+    Told<P>,
+    OfficeClerk<'r, F, P, Told<P>, J>,
+    J,
+    R,
+>;
 
 /// Why no worker has run, and the doors of all of them, as they were.
 #[derive(Drop)]
@@ -102,8 +109,8 @@ fn put_workers<'r, D: Door + Drop, F: Folder, P: Pages + Drop, J: Named, R: Wait
     ensures left { doors.new.items ≡ [] }
     ensures room { vec_len doors.old ≤ vec_capacity doors.new }
 {
-    doors.as_mut_slice().reverse();
-    viewers.as_mut_slice().reverse();
+    turn_round(doors);
+    turn_round(&mut viewers);
     while let Some(door) = doors.pop() {
         let Some(viewer) = viewers.pop() else {
             unreachable!()
@@ -114,6 +121,15 @@ fn put_workers<'r, D: Door + Drop, F: Folder, P: Pages + Drop, J: Named, R: Wait
             unreachable!()
         };
     }
+}
+
+// Puts the values of a list in the opposite order.
+fn turn_round<T>(values: &mut Vec<T>)
+    ensures items { values.new.items ≡ reverse values.old.items }
+    ensures len { vec_len values.new ≡ vec_len values.old }
+    ensures capacity { vec_capacity values.new ≡ vec_capacity values.old }
+{
+    values.as_mut_slice().reverse();
 }
 
 // The doors of workers that have not run, put into a list with room for them, in order.

@@ -1,10 +1,5 @@
 use std::io::{Error, ErrorKind};
 use std::net::{TcpListener, TcpStream};
-use std::thread;
-use std::time::{Clock, Duration};
-
-// How often a listener is asked for one connection before it counts as failed.
-const TRIES: u32 = 1000;
 
 // Linux's numbers of errors that concern one client, and not the listener (accept(2)): EPERM, ENONET, EPROTO,
 // ENOPROTOOPT, EOPNOTSUPP, ENETDOWN, ENETUNREACH, ECONNRESET, EHOSTDOWN, EHOSTUNREACH.
@@ -13,34 +8,40 @@ const OF_ONE_CLIENT: [i32; 10] = [1, 64, 71, 92, 95, 100, 101, 104, 112, 113];
 // Linux's numbers of errors that pass when other connections end: ENOMEM, ENFILE, EMFILE, ENOBUFS.
 const SHORTAGES: [i32; 4] = [12, 23, 24, 105];
 
-/// The next connection of a listener. It waits for one.
-pub fn accept_next<R: Clock>(listener: &TcpListener, clock: &R) -> Option<TcpStream> {
-    for _ in 0..TRIES {
-        match listener.accept() {
-            Ok((stream, _)) => return Some(stream),
-            Err(error) => {
-                if !passes(&error, clock) {
-                    return None;
-                }
-            }
-        }
-    }
-    None
+/// What a listener that does not block gives.
+#[derive(Drop)]
+pub enum Accepted {
+    /// A connection. More may have come.
+    Stream(TcpStream),
+    /// No connection has come.
+    Nothing,
+    /// One client went away. More may have come.
+    Lost,
+    /// The system is short of descriptors or memory for the connection that has come.
+    Short,
+    /// The listener is of no use any more.
+    Broken,
 }
 
-// Whether the listener may be asked again after this error. It waits where that needs time.
-fn passes<R: Clock>(error: &Error, clock: &R) -> bool {
+/// The next connection of a listener that does not block.
+pub fn accept_one(listener: &TcpListener) -> Accepted {
+    match listener.accept() {
+        Ok((stream, _)) => Accepted::Stream(stream),
+        Err(error) => without_stream(&error),
+    }
+}
+
+// What an error of a listener means.
+fn without_stream(error: &Error) -> Accepted {
     match error.kind() {
-        ErrorKind::Interrupted => return true,
-        ErrorKind::ConnectionAborted => return true,
+        ErrorKind::WouldBlock => return Accepted::Nothing,
+        ErrorKind::Interrupted => return Accepted::Lost,
+        ErrorKind::ConnectionAborted => return Accepted::Lost,
         _ => {}
     }
-    let Some(code) = error.raw_os_error() else {
-        return false;
-    };
-    if SHORTAGES.as_slice().contains(&code) {
-        thread::sleep(clock, Duration::from_millis(50));
-        return true;
+    match error.raw_os_error() {
+        Some(code) if SHORTAGES.as_slice().contains(&code) => Accepted::Short,
+        Some(code) if OF_ONE_CLIENT.as_slice().contains(&code) => Accepted::Lost,
+        _ => Accepted::Broken,
     }
-    OF_ONE_CLIENT.as_slice().contains(&code)
 }

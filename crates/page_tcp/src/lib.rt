@@ -3,13 +3,18 @@
 #![tactic(auto)]
 
 mod accepting;
+mod connection;
+mod connections;
+mod head;
 mod limit;
 mod sent;
+mod table;
 mod tcp_door;
 mod tcp_link;
 mod tcp_net;
 #[cfg(test)]
 mod tests;
+mod tries;
 
 pub use tcp_door::TcpDoor;
 pub use tcp_link::TcpLink;

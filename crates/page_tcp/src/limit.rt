@@ -5,7 +5,8 @@ pub fn patience() -> Duration {
     Duration::from_secs(5)
 }
 
-/// How long all reads between two writes may take: a client that sends a byte now and then is cut off too.
+/// How long all reads between two writes may take: a client that sends a byte now and then is cut off too. The head
+/// of a request, for which no worker waits, may take as long.
 pub fn request_time() -> Duration {
     Duration::from_secs(30)
 }
@@ -15,9 +16,19 @@ pub fn reply_time() -> Duration {
     Duration::from_secs(300)
 }
 
-/// How long the end of a connection may take.
+/// How long a connection may be idle between two requests.
+pub fn idle_time() -> Duration {
+    Duration::from_secs(60)
+}
+
+/// How long a client may take to close a connection that is over.
 pub fn linger() -> Duration {
-    Duration::from_millis(200)
+    Duration::from_secs(1)
+}
+
+/// How often connections are looked through for those that waited for too long.
+pub fn round() -> Duration {
+    Duration::from_secs(1)
 }
 
 /// A stopwatch of the calls in one direction. It begins with the first of them.

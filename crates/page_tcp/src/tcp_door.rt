@@ -1,32 +1,30 @@
 ghost use Rattle.std.specs.Prelude.{◌≡◌};
 
-use crate::accepting::accept_next;
+use crate::connections::Connections;
 use crate::tcp_link::TcpLink;
 use page_io::Failed;
 use page_net::{Came, Door};
-use std::net::TcpListener;
+use std::alloc::Global;
+use std::sync::{Arc, Wait};
 use std::time::Clock;
 
-// How many connections that are broken as they come are passed over.
-const BROKEN: u32 = 1000;
-
-/// One worker's handle of a listener of the system, which workers share. It tells nothing of its links, and is never
+/// One worker's handle of the connections of a server, which workers share. It tells nothing of its links, and is never
 /// closed.
 #[derive(Drop)]
-pub struct TcpDoor<'r, R> {
-    listener: TcpListener,
-    clock: &'r R,
+pub struct TcpDoor<'r, R: Clock + Wait> {
+    connections: Arc<Connections, Global>,
+    rt: &'r R,
     faults: u64,
 }
 
-impl<'r, R: Clock> TcpDoor<'r, R> {
-    /// A door over this listener that has not failed yet.
-    pub fn new(listener: TcpListener, clock: &'r R) -> TcpDoor<'r, R>
+impl<'r, R: Clock + Wait> TcpDoor<'r, R> {
+    /// A door to these connections that has not failed yet.
+    pub(crate) fn new(connections: Arc<Connections, Global>, rt: &'r R) -> TcpDoor<'r, R>
         ensures { ⟦<TcpDoor<'r, R> as Door>⟧.faults result ≡ 0 }
     {
         TcpDoor {
-            listener,
-            clock,
+            connections,
+            rt,
             faults: 0,
         }
     }
@@ -37,20 +35,9 @@ impl<'r, R: Clock> TcpDoor<'r, R> {
     {
         self.faults
     }
-
-    // The next connection that is not broken.
-    fn next(&self) -> Option<TcpLink<'r, R>> {
-        for _ in 0..BROKEN {
-            let stream = accept_next(&self.listener, self.clock)?;
-            if let Ok(link) = TcpLink::new(stream, self.clock) {
-                return Some(link);
-            }
-        }
-        None
-    }
 }
 
-impl<'r, R: Clock> Door for TcpDoor<'r, R> {
+impl<'r, R: Clock + Wait> Door for TcpDoor<'r, R> {
     type Link = TcpLink<'r, R>;
 
     ghost use Rattle.std.specs.Prelude.{None};
@@ -62,8 +49,8 @@ impl<'r, R: Clock> Door for TcpDoor<'r, R> {
     ghost bounded = { λ _. tt };
 
     fn accept(&mut self) -> Result<Came<TcpLink<'r, R>>, Failed> {
-        match self.next() {
-            Some(link) => Ok(Came::Link(link)),
+        match self.connections.next(self.rt) {
+            Some(connection) => Ok(Came::Link(TcpLink::new(connection, self.rt))),
             None => {
                 self.faults = self.faults.saturating_add(1);
                 Err(Failed)
@@ -72,6 +59,6 @@ impl<'r, R: Clock> Door for TcpDoor<'r, R> {
     }
 
     fn done(&mut self, link: TcpLink<'r, R>) {
-        link.hang_up();
+        self.connections.put(self.rt, link.leave());
     }
 }

@@ -1,16 +1,13 @@
-ghost use Rattle.std.specs.Prelude.{◌≡◌, None, IfOk};
-ghost use mathlib.Core.List.{IsPrefix};
-ghost use Rattle.page_http.specs.Replies.{IsSendable};
-ghost use Rattle.page_office.specs.Clerks.{GivesReply, IsReloadReply};
+ghost use Rattle.std.specs.Prelude.{◌≡◌};
 
 use crate::at_door::AtDoor;
 use crate::ended::Ended;
 use crate::page_worker::PageWorker;
 use crate::work_end::WorkEnd;
 use page_datum::{Datum, Files, PageEnd, PageStop, Pages, Shown};
-use page_io::{Bytes, List, Memory, Sink, Text};
+use page_io::{Bytes, List, MemFolder, Memory, Sink, Text};
 use page_net::{MemDoor, MemLink};
-use page_office::{Clerk, Verdict};
+use page_office::{Back, Office, OfficeClerk};
 use page_spawn::Worker;
 use set_publisher::{Desk, Named, Told, Viewer};
 use std::alloc::Global;
@@ -47,7 +44,7 @@ impl Shown for NothingRefused {
 impl Pages for BareSet {
     type Refused = NothingRefused;
 
-    ghost use Rattle.std.specs.Prelude.{◌≡◌, [], ⊥};
+    ghost use Rattle.std.specs.Prelude.{◌≡◌, []};
     ghost use Rattle.page_datum.specs.Execution.{no_root};
 
     ghost made_of = { λ set. set.files };
@@ -79,34 +76,7 @@ type BareDesk = Desk<BareSet, Told<BareSet>>;
 
 type BareViewer = Viewer<BareSet, Told<BareSet>>;
 
-// A clerk that finds no memory for any reload.
-#[derive(Drop)]
-struct PoorClerk;
-
-impl<J: Named> Clerk<BareSet, Told<BareSet>, J> for PoorClerk {
-    ghost use Rattle.std.specs.Prelude.{None};
-
-    ghost given = { λ _. None };
-
-    fn answer<R: Wait>(
-        &mut self,
-        _alloc: Global,
-        _rt: &R,
-        viewer: &mut BareViewer,
-        number: u64,
-    ) -> Result<Verdict<J>, Memory>
-        requires { viewer.old.book ≡ J.desk }
-        ensures desk { viewer.new.book ≡ viewer.old.book }
-        ensures grows { IsPrefix viewer.old.sets viewer.new.sets }
-        ensures looks { viewer.new.looks ≡ viewer.old.looks }
-        ensures misses { viewer.new.misses ≡ viewer.old.misses }
-        ensures reply { IfOk result (IsReloadReply viewer.old viewer.new number) }
-        ensures sendable { IfOk result IsSendable }
-        ensures given { GivesReply None None result }
-    {
-        Err(Memory)
-    }
-}
+type FolderClerk<'o, J> = OfficeClerk<'o, MemFolder, BareSet, Told<BareSet>, J>;
 
 type MemoryDoor = MemDoor<MemLink>;
 
@@ -140,7 +110,8 @@ fn door_of(alloc: Global, cases: &[(u8, u64)], fail: u64) -> Result<MemoryDoor, 
 // Whether the link got so many replies.
 fn has_replies(link: &MemLink, replies: usize) -> bool {
     let taken = link.taken();
-    taken.len() == replies * REPLY.len() && taken.chunks(REPLY.len()).all(|chunk| chunk == REPLY)
+    Some(taken.len()) == replies.checked_mul(REPLY.len())
+        && taken.chunks(REPLY.len()).all(|chunk| chunk == REPLY)
 }
 
 // Does the work of a worker, by the trait alone.
@@ -157,36 +128,57 @@ fn door_left<W: AtDoor>(worker: W) -> W::Door
     worker.leave()
 }
 
+// The office of a desk, whose folder is empty.
+fn office_of<J: Named>(
+    alloc: Global,
+    desk: BareDesk,
+) -> Office<MemFolder, BareSet, Told<BareSet>, J>
+    requires { desk.book ≡ J.desk }
+{
+    let folder = MemFolder::new(List::new(alloc), List::new(alloc));
+    Office::new(Back::new(desk, folder, Text::new(alloc)))
+}
+
 // How a worker ends at this door, of which it serves at most so many links.
 fn end_at<J: Named, R: Wait>(
     rt: &R,
     alloc: Global,
+    desk: BareDesk,
     door: MemoryDoor,
     viewer: BareViewer,
     links: u32,
 ) -> Ended<MemoryDoor>
-    requires { viewer.book ≡ J.desk }
+    requires desk { desk.book ≡ J.desk }
+    requires viewer { viewer.book ≡ J.desk }
 {
-    let worker: PageWorker<MemoryDoor, BareSet, Told<BareSet>, PoorClerk, J, R> = PageWorker::new(
-        alloc, rt, door, viewer, PoorClerk, links,
-    );
-    do_work(worker)
+    let office: Office<MemFolder, BareSet, Told<BareSet>, J> = office_of(alloc, desk);
+    let clerk = OfficeClerk::new(&office);
+    let worker: PageWorker<MemoryDoor, BareSet, Told<BareSet>, FolderClerk<J>, J, R> =
+        PageWorker::new(alloc, rt, door, viewer, clerk, links);
+    let ended = do_work(worker);
+    let _folder = office.close(rt);
+    ended
 }
 
 // The door of a worker that has not worked.
 fn door_at<J: Named, R: Wait>(
     rt: &R,
     alloc: Global,
+    desk: BareDesk,
     door: MemoryDoor,
     viewer: BareViewer,
 ) -> MemoryDoor
-    requires { viewer.book ≡ J.desk }
+    requires desk { desk.book ≡ J.desk }
+    requires viewer { viewer.book ≡ J.desk }
     ensures { result ≡ door }
 {
-    let worker: PageWorker<MemoryDoor, BareSet, Told<BareSet>, PoorClerk, J, R> = PageWorker::new(
-        alloc, rt, door, viewer, PoorClerk, 1,
-    );
-    door_left(worker)
+    let office: Office<MemFolder, BareSet, Told<BareSet>, J> = office_of(alloc, desk);
+    let clerk = OfficeClerk::new(&office);
+    let worker: PageWorker<MemoryDoor, BareSet, Told<BareSet>, FolderClerk<J>, J, R> =
+        PageWorker::new(alloc, rt, door, viewer, clerk, 1);
+    let door = door_left(worker);
+    let _folder = office.close(rt);
+    door
 }
 
 // A desk with its first set.
@@ -219,8 +211,7 @@ fn serves<R: Wait>(
         desk.close(rt);
         return Ok(false);
     };
-    let ended = end_at::<Brand, R>(rt, alloc, door, viewer, links);
-    desk.close(rt);
+    let ended = end_at::<Brand, R>(rt, alloc, desk, door, viewer, links);
     let back = ended.door.back();
     let mut good = ended.end == end && back.len() == replies.len();
     for (link, count) in back.iter().zip(replies) {
@@ -283,8 +274,7 @@ fn a_worker_leaves_its_door_as_it_was(rt: HostRuntime) -> Result<(), Fail> {
         desk.close(&rt);
         return Ok(());
     };
-    let door = door_at::<Brand, HostRuntime>(&rt, rt.alloc(), door, viewer);
-    desk.close(&rt);
+    let door = door_at::<Brand, HostRuntime>(&rt, rt.alloc(), desk, door, viewer);
     assert!(rt; door.back().is_empty());
     Ok(())
 }

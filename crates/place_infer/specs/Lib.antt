@@ -1,3 +1,4 @@
+pub mod BreaksInRanges
 pub mod ChartViews
 pub mod Inferring
 pub mod Kept

@@ -1,5 +1,6 @@
 ghost use Rattle.std.specs.Prelude.{◌≡◌, IfErr, false, true};
 ghost use Rattle.place_core.specs.declared.place.Place.TheVariants as place;
+ghost use Rattle.place_infer.specs.BreaksInRanges.{HasBreaksInRanges};
 ghost use Rattle.place_infer.specs.Inferring.{Infers, IsRefusal, NeedsError};
 ghost use Rattle.place_chart.specs.Least.{IsLeastChart};
 ghost use Rattle.place_infer.specs.Inferring as spec;
@@ -90,7 +91,8 @@ fn judged(
 
 /// The chart of a set of templates: the places at the nodes of each template that a root reaches, for each place in which it is entered. A
 /// root is entered in text; names that no template has are passed over. It is the least chart of the set, and covers every path of each
-/// root. The errors, in the order in which they are looked for:
+/// root. Each `break` and `continue` stands in a range, as `parse_file` takes no other ones. The errors, in the order in which they are
+/// looked for:
 ///
 /// - `TooManyDerived`: the chart would have more than `LIMIT` pairs.
 /// - `Shows`: an error stands on a path of a root, or on two that meet, and is shown with them; `EndContext` comes only where no other error
@@ -101,6 +103,7 @@ fn judged(
 /// shown, the pairs are made twice, and then the paths that show it are gone choice by choice; a stretch of a template on which nothing is
 /// chosen is gone once for each context in which it begins.
 pub fn infer(alloc: Global, forest: &Forest, roots: &Names) -> Result<Chart, SetRefused>
+    requires { HasBreaksInRanges forest.now }
     ensures answers { Infers forest.now roots.now result }
     // A refusal for another cause than its pairs and want of memory needs an error on a path.
     ensures complete { HasAscendingNames forest.now

@@ -4,6 +4,7 @@ pub mod Comings
 pub mod CommonMoves
 pub mod ConflictEdges
 pub mod ErrorFree
+pub mod MeetingPoints
 pub mod NoErrors
 pub mod NoRefusal
 pub mod RefusalEvidences

@@ -1,2 +1,3 @@
 pub mod Exactness
+pub mod MeetingPoints
 pub mod Witness

@@ -9,4 +9,7 @@ pub use exact_laws::{
     conflict_free_sets_have_no_other_error, ends_are_refused_alone,
     error_free_logs_have_no_conflict,
 };
-pub use path_laws::{every_conflict_has_error, every_member_has_a_path, every_root_has_a_path};
+pub use path_laws::{
+    edges_meet_at_controls, every_conflict_has_error, every_member_has_a_path,
+    every_root_has_a_path,
+};

@@ -9,7 +9,7 @@ invariant-loop-door g l = record {
   viewers_are : map (λ w. w.viewer) l.workers.items ++ reverse l.viewers.items ≡ l.fn.viewers.items;
   links_are : Each (λ w. w.links ≡ l.links) l.workers.items;
   same : vec_len l.viewers ≡ vec_len l.doors;
-  desk : Each (λ viewer. viewer.book ≡ g.J.Named.desk) l.viewers.items;
+  desk : Each (λ viewer. viewer.book ≡ g.J.Named.desk) (reverse l.viewers.items);
   room : vec_len l.doors + vec_len l.workers ≤ vec_capacity l.workers;
   kept : vec_len l.fn.doors ≤ vec_capacity l.doors;
 }

@@ -1,0 +1,4 @@
+-- Each connection of wrk waits for two milliseconds before each request.
+function delay()
+  return 2
+end
