@@ -87,5 +87,5 @@ module _ {V D L : Type 0} (answers : Answering V)
   workers_end_by doors ds viewers vs most ws wv es d v w at ends =
       workers_end doors viewers most ws es
       (subst (λ (z : List D). AreWorkersAt z viewers most ws) d
-        (subst (λ (z : List (Watched V)). AreWorkersAt ds z most ws) v
-          (subst (λ (z : List (DoorWorker V D C)). AreWorkersAt ds vs most z) (sym w) at))) ends
+      (subst (λ (z : List (Watched V)). AreWorkersAt ds z most ws) v
+      (subst (λ (z : List (DoorWorker V D C)). AreWorkersAt ds vs most z) (sym w) at))) ends

@@ -96,12 +96,12 @@ module _ {V D L : Type 0}
   pub places_served : (sets : List V) (count most : ℕ) (doors : List D) (before now after : Option (NetTold D)) (out0 out : Option (List ℕ))
       (kept : Type 0) (r : Result (Unit {0}) ServeStop) → TakesDoors door_faults told count before now doors
       → (BothTold before now (λ o n. MovesDoors o n (length doors) [])
-        → ServeAnswers told door_faults answers left taken link_faults sets (length doors) most before after out0 out ⊥ r)
+      → ServeAnswers told door_faults answers left taken link_faults sets (length doors) most before after out0 out ⊥ r)
       → ServeAnswers told door_faults answers left taken link_faults sets count most before after out0 out kept r
   places_served sets count most doors before now after out0 out kept r takes serves =
       kept_weaker sets count most before after out0 out kept r
       (subst (λ (n : ℕ). ServeAnswers told door_faults answers left taken link_faults sets n most before after out0 out ⊥ r) takes.count_is
-        (serves (subst (λ (n : ℕ). BothTold before now (λ o w. MovesDoors o w n [])) (sym takes.count_is) takes.given)))
+      (serves (subst (λ (n : ℕ). BothTold before now (λ o w. MovesDoors o w n [])) (sym takes.count_is) takes.given)))
 
   -- there was no memory for a desk
   pub nothing_served : (sets : List V) (count most : ℕ) (old : Option (NetTold D)) (out : Option (List ℕ)) (kept : Type 0)

@@ -68,8 +68,8 @@ module _ {V D L : Type 0} (answers : Answering V)
   have_served doors viewers most es sets before now after w fresh seen given back = record {
     count_is = as_many_ends doors viewers most es w;
     served = served_each w.workers es sets most w.are_at.links_are
-      (subst (λ (ds : List D). AreFreshDoors door_faults told ds) (sym w.are_at.doors_are) fresh)
-      (subst (λ (vs : List (Watched V)). Each (λ viewer. viewer.sets ≡ sets) vs) (sym w.are_at.viewers_are) seen) w.ended;
+        (subst (λ (ds : List D). AreFreshDoors door_faults told ds) (sym w.are_at.doors_are) fresh)
+        (subst (λ (vs : List (Watched V)). Each (λ viewer. viewer.sets ≡ sets) vs) (sym w.are_at.viewers_are) seen) w.ended;
     back = all_returned (length doors) (doors_of_ends es) before now after given back;
   }
 
@@ -77,7 +77,7 @@ module _ {V D L : Type 0} (answers : Answering V)
       → HasEnded answers told door_faults left taken link_faults w e → e.end.door_fault ≡ true → 0 < door_faults e.door
   fault_fails w e fresh h failed =
       let rose : Rose (door_faults w.door) (door_faults h.left_off.door) =
-        subst (λ (b : Bool). StopsWork answers told door_faults left taken link_faults (λ (c : Unit {0}). None) w h.left_off e.end.links b) failed h.serves.stops in
+      subst (λ (b : Bool). StopsWork answers told door_faults left taken link_faults (λ (c : Unit {0}). None) w h.left_off e.end.links b) failed h.serves.stops in
       omega (arith, fresh, rose, ap door_faults h.door_is)
 
   first_or_later : (e : Ended D) (es : List (Ended D)) → (e.end.door_fault ≡ true → 0 < door_faults e.door)

@@ -23,8 +23,15 @@ pub fn summary_text<D>(alloc: Global, ends: &[Ended<D>]) -> Result<Text, Memory>
 fn push_line(text: &mut Text, number: u32, end: &WorkEnd) -> Result<(), Memory>
     ensures { OnOk result (text.new ≡ text.old ++ worker_line number end.now) }
 {
-    let WorkEnd { links, requests, last, .. } = *end;
+    let WorkEnd {
+        links,
+        requests,
+        last,
+        ..
+    } = *end;
     let alloc = text.allocator();
-    let line = format!(in alloc; "worker {number}: links {links} requests {requests} set {last}\n")?;
+    let line = format!(in alloc;
+        "worker {number}: links {links} requests {requests} set {last}\n"
+    )?;
     text.push_str(line.as_str())
 }

@@ -205,7 +205,9 @@ fn two_serve<T: Spawner, R: Wait + Sync>(
     let twice = link_of(alloc, ASK_TWICE, 1_000, 0)?;
     let mut net = two_doors(alloc, once, twice, calls)?;
     let folder = folder_of(alloc, false, 0)?;
-    let good = answers(rt, alloc, &mut net, spawn, folder, calls, 2, 1, answer, lines)?;
+    let good = answers(
+        rt, alloc, &mut net, spawn, folder, calls, 2, 1, answer, lines,
+    )?;
     Ok(good && net.back().len() == back)
 }
 
@@ -213,7 +215,9 @@ const BOTH: &str = "worker 1: links 1 requests 1 set 1\nworker 2: links 1 reques
 
 // The first 50 bytes of them; and where the second one's door fails, or the first one's link.
 const BEGUN: &str = "worker 1: links 1 requests 1 set 1\nworker 2: links";
+
 const DOOR_FAILS: &str = "worker 1: links 1 requests 1 set 1\nworker 2: links 0 requests 0 set 0\n";
+
 const LINK_FAILS: &str = "worker 1: links 1 requests 0 set 0\nworker 2: links 1 requests 2 set 1\n";
 
 #[test]
@@ -229,15 +233,59 @@ fn each_device_may_fail(rt: HostRuntime) -> Result<(), Fail> {
     let alloc = rt.alloc();
     let rows = [
         (NO_CALL, Ok(()), 2usize, BOTH),
-        (FailingCalls { net: 1, ..NO_CALL }, Err(ServeStop::Net), 0, ""),
-        (FailingCalls { net: 2, ..NO_CALL }, Err(ServeStop::Net), 1, ""),
-        (FailingCalls { door: 1, ..NO_CALL }, Err(ServeStop::Net), 2, DOOR_FAILS),
-        (FailingCalls { seat: 2, ..NO_CALL }, Err(ServeStop::Seat), 2, ""),
-        (FailingCalls { spawn: 1, ..NO_CALL }, Err(ServeStop::Spawn), 2, ""),
+        (
+            FailingCalls { net: 1, ..NO_CALL },
+            Err(ServeStop::Net),
+            0,
+            "",
+        ),
+        (
+            FailingCalls { net: 2, ..NO_CALL },
+            Err(ServeStop::Net),
+            1,
+            "",
+        ),
+        (
+            FailingCalls { door: 1, ..NO_CALL },
+            Err(ServeStop::Net),
+            2,
+            DOOR_FAILS,
+        ),
+        (
+            FailingCalls { seat: 2, ..NO_CALL },
+            Err(ServeStop::Seat),
+            2,
+            "",
+        ),
+        (
+            FailingCalls {
+                spawn: 1,
+                ..NO_CALL
+            },
+            Err(ServeStop::Spawn),
+            2,
+            "",
+        ),
         (FailingCalls { link: 1, ..NO_CALL }, Ok(()), 2, LINK_FAILS),
-        (FailingCalls { write: 1, ..NO_CALL }, Err(ServeStop::Write), 2, ""),
+        (
+            FailingCalls {
+                write: 1,
+                ..NO_CALL
+            },
+            Err(ServeStop::Write),
+            2,
+            "",
+        ),
         // The lines are written in two calls.
-        (FailingCalls { write: 2, ..NO_CALL }, Err(ServeStop::Write), 2, BEGUN),
+        (
+            FailingCalls {
+                write: 2,
+                ..NO_CALL
+            },
+            Err(ServeStop::Write),
+            2,
+            BEGUN,
+        ),
     ];
     for (calls, answer, back, lines) in rows {
         let mut spawn: InlineSpawner<HostRuntime> = InlineSpawner::new(only(alloc, calls.spawn)?);
@@ -263,7 +311,18 @@ fn one_serves<T: Spawner, R: Wait + Sync>(
     let mut doors = List::new(alloc);
     doors.push(MemDoor::new(alloc, links, List::new(alloc))?)?;
     let mut net = MemNet::new(alloc, doors, List::new(alloc))?;
-    let good = answers(rt, alloc, &mut net, spawn, folder, NO_CALL, 1, 1_000, Ok(()), line)?;
+    let good = answers(
+        rt,
+        alloc,
+        &mut net,
+        spawn,
+        folder,
+        NO_CALL,
+        1,
+        1_000,
+        Ok(()),
+        line,
+    )?;
     Ok(good && net.back().iter().all(|door| have_got(door.back(), cases)))
 }
 
@@ -319,6 +378,7 @@ const READ_FAULT: &[u8] = b"HTTP/1.1 500 Internal Server Error\r\n\
     Content-Length: 9\r\nSet-Number: 1\r\nConnection: keep-alive\r\n\r\n<p>hi</p>";
 
 const ONE_SET: &str = "worker 1: links 1 requests 2 set 1\n";
+
 const TWO_SETS: &str = "worker 1: links 1 requests 2 set 2\n";
 
 // A reload, and the page after it: of one file, and of two, of which each call fails in turn.
@@ -383,8 +443,20 @@ fn padded(
 #[test]
 fn limits_hold(rt: HostRuntime) -> Result<(), Fail> {
     let alloc = rt.alloc();
-    let head = padded(alloc, b"GET /set HTTP/1.1\r\nX: ", b"x", 16_358, b"\r\n\r\n")?;
-    let long_head = padded(alloc, b"GET /set HTTP/1.1\r\nX: ", b"x", 16_359, b"\r\n\r\n")?;
+    let head = padded(
+        alloc,
+        b"GET /set HTTP/1.1\r\nX: ",
+        b"x",
+        16_358,
+        b"\r\n\r\n",
+    )?;
+    let long_head = padded(
+        alloc,
+        b"GET /set HTTP/1.1\r\nX: ",
+        b"x",
+        16_359,
+        b"\r\n\r\n",
+    )?;
     let body = padded(alloc, POST_LONGEST, b"  ", 524_287, b"")?;
     let requests = padded(alloc, b"", ASK, 10_001, b"")?;
     let replies = padded(alloc, b"", SET_REPLY, 9_999, LAST_REPLY)?;
@@ -415,10 +487,22 @@ fn wait_for_another<T: Spawner, R: Wait + Sync>(
     let first = second.waiting(SureLink::new(Bytes::copy_of(alloc, ASK)?, 100), turns)?;
     let mut net = two_doors(alloc, first, second, NO_CALL)?;
     let folder = folder_of(alloc, false, 0)?;
-    answers(rt, alloc, &mut net, spawn, folder, NO_CALL, 2, 1, Ok(()), lines)
+    answers(
+        rt,
+        alloc,
+        &mut net,
+        spawn,
+        folder,
+        NO_CALL,
+        2,
+        1,
+        Ok(()),
+        lines,
+    )
 }
 
 const MET: &str = "worker 1: links 1 requests 1 set 1\nworker 2: links 1 requests 1 set 1\n";
+
 const NOT_MET: &str = "worker 1: links 1 requests 0 set 0\nworker 2: links 1 requests 1 set 1\n";
 
 // In threads the workers serve at once; one after another the first one's link fails.

@@ -17,8 +17,15 @@ use std::alloc::Global;
 use std::sync::Wait;
 
 /// A worker whose clerk asks an office.
-pub type OfficeWorker<'r, D, F, P, J, R> =
-    PageWorker<'r, D, P, Told<P>, OfficeClerk<'r, F, P, Told<P>, J>, J, R>;
+pub type OfficeWorker<'r, D, F, P, J, R> = PageWorker<
+    'r,
+    D,
+    P,
+    Told<P>,
+    OfficeClerk<'r, F, P, Told<P>, J>,
+    J,
+    R,
+>;
 
 /// Why no worker has run, and the doors of all of them, as they were.
 #[derive(Drop)]
