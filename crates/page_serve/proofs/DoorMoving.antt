@@ -132,3 +132,14 @@ module _ {D : Type 0} where
       fresh = fresh;
       back = all_returned (length doors) doors a b c (subst (λ (m : ℕ). BothTold a b (λ o w. MovesDoors o w m [])) (sym long) given) back;
     }
+
+    -- the doors that were given are back, which have another name there
+    pub closed_back : (doors ds : List D) (a b c : Option (NetTold D)) → ds ≡ doors → AreFreshDoors faults told doors
+        → BothTold a b (λ o w. MovesDoors o w (length doors) []) → BothTold b c (λ o w. MovesDoors o w 0 ds)
+        → ReturnsDoors faults told (length doors) a c
+    closed_back doors ds a b c same fresh given back = record {
+      doors = doors;
+      within = omega arith;
+      fresh = fresh;
+      back = all_returned (length doors) doors a b c given (subst (λ (z : List D). BothTold b c (λ o w. MovesDoors o w 0 z)) same back);
+    }

@@ -1,5 +1,6 @@
 -- The definitions on small values: what holds, and what does not.
 use Rattle.std.proofs.Common.{arith, rules, ◌≡◌, ◌≢◌, ◌⊎◌, ℕ, true, false, List, [], ◌∷◌, ◌++◌, codes, length, Option, Some, None, Result, Ok, Err, inl, inr, refl, ap}
+use Rattle.std.specs.Fmt.{digits}
 use Rattle.page_net.specs.Nets.{NetTold}
 use Rattle.page_worker.specs.declared.ended.Ended.{Ended}
 use Rattle.page_worker.specs.declared.work_end.WorkEnd.{WorkEnd}
@@ -64,6 +65,7 @@ abbrev both_lines : List ℕ
 both_lines = codes "worker 1: links 1 requests 1 set 1" ++ 10 ∷ (codes "worker 2: links 1 requests 2 set 1" ++ 10 ∷ [])
 
 lines_of_both : summary_lines 1 both ≡ both_lines
+unfolding digits
 lines_of_both = refl
 
 no_fault : has_door_fault both ≡ false
@@ -77,9 +79,11 @@ abbrev ok : Result (Unit {0}) ServeStop
 ok = Ok tt
 
 all_is_well : ReportAnswers both (Some []) (Some both_lines) ok
+unfolding digits
 all_is_well = (refl, refl)
 
 a_part_is_not : ReportAnswers both (Some []) (Some (codes "worker 1")) ok → ⊥
+unfolding digits
 a_part_is_not report = cc report.1
 
 no_door_failed : ReportAnswers both (Some []) (Some both_lines) (Err stop.Net) → ⊥

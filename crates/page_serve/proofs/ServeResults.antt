@@ -25,14 +25,6 @@ report_cause es out0 out failed net spawn outs (Err stop.Seat) h f n w = absurd 
 report_cause es out0 out failed net spawn outs (Err stop.Write) h f n w = w refl
 report_cause es out0 out failed net spawn outs (Err stop.Memory) h f n w = tt
 
--- why no worker has run
-pub spawn_cause : {T : Type 0} (net spawn seats outs : Type 0) (s : ServeStop) → IsSpawnStop spawn s → ServeCause {T = T} net spawn seats outs (Err s)
-spawn_cause net spawn seats outs stop.Net h = absurd h
-spawn_cause net spawn seats outs stop.Spawn h = h
-spawn_cause net spawn seats outs stop.Seat h = absurd h
-spawn_cause net spawn seats outs stop.Write h = absurd h
-spawn_cause net spawn seats outs stop.Memory h = tt
-
 -- no count rose, so there is no cause but memory
 pub none_rose : (net spawn seats outs : Type 0) (r : Result (Unit {0}) ServeStop) → ServeCause net spawn seats outs r
     → (net → ⊥) → (spawn → ⊥) → (seats → ⊥) → (outs → ⊥) → IsDoneOrOutOfMemory r
@@ -42,15 +34,6 @@ none_rose net spawn seats outs (Err stop.Spawn) h n s q o = absurd (s h)
 none_rose net spawn seats outs (Err stop.Seat) h n s q o = absurd (q h)
 none_rose net spawn seats outs (Err stop.Write) h n s q o = absurd (o h)
 none_rose net spawn seats outs (Err stop.Memory) h n s q o = tt
-
--- why a door or a place was not given
-pub place_cause : {T U : Type 0} (net spawn seats outs : Type 0) (s : ServeStop) → ServeCause {T = T} net ⊥ seats ⊥ (Err s)
-    → ServeCause {T = U} net spawn seats outs (Err s)
-place_cause net spawn seats outs stop.Net h = h
-place_cause net spawn seats outs stop.Spawn h = absurd h
-place_cause net spawn seats outs stop.Seat h = h
-place_cause net spawn seats outs stop.Write h = absurd h
-place_cause net spawn seats outs stop.Memory h = tt
 
 -- a cause of a stage is one of the whole
 pub cause_weaker : {U : Type 0} (n1 s1 q1 o1 n2 s2 q2 o2 : Type 0) (r : Result U ServeStop)
@@ -86,24 +69,6 @@ module _ {V D L : Type 0}
   not_run_answers sets count most old now out spawn kept stop.Seat h b = absurd h
   not_run_answers sets count most old now out spawn kept stop.Write h b = absurd h
   not_run_answers sets count most old now out spawn kept stop.Memory h b = inl (record { back = b; unwritten = refl })
-
-  -- doors that were given, and handed back as they were
-  pub given_back : (doors : List D) (before now after : Option (NetTold D)) → AreFreshDoors door_faults told doors
-      → BothTold before now (λ o n. MovesDoors o n (length doors) []) → BothTold now after (λ o n. MovesDoors o n 0 doors)
-      → ReturnsDoors door_faults told (length doors) before after
-  given_back doors before now after fresh given back = record {
-    doors = doors;
-    within = omega arith;
-    fresh = fresh;
-    back = all_returned (length doors) doors before now after given back;
-  }
-
-  -- the same where the doors that went back are these by another name
-  pub closed_back : (doors ds : List D) (before now after : Option (NetTold D)) → ds ≡ doors → AreFreshDoors door_faults told doors
-      → BothTold before now (λ o n. MovesDoors o n (length doors) []) → BothTold now after (λ o n. MovesDoors o n 0 ds)
-      → ReturnsDoors door_faults told (length doors) before after
-  closed_back doors ds before now after same fresh given back =
-      given_back doors before now after fresh given (subst (λ (z : List D). BothTold now after (λ o n. MovesDoors o n 0 z)) same back)
 
   -- a door or a place was not given
   pub no_places : (desk : Published V) (sets : List V) (count most : ℕ) (old now : Option (NetTold D)) (out : Option (List ℕ)) (kept : Type 0)

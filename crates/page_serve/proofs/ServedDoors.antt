@@ -12,8 +12,10 @@ use Rattle.page_spawn.specs.Gates.{Each}
 use Rattle.page_worker.specs.DoorWork.{StopsWork}
 use Rattle.page_worker.specs.DoorWorkers.{DoorWorker}
 use Rattle.page_worker.specs.declared.ended.Ended.{Ended}
-use Rattle.set_publisher.specs.Values.{Watched}
+use Rattle.set_publisher.specs.Publishing.{Seats}
+use Rattle.set_publisher.specs.Values.{Published, Watched}
 use Rattle.page_serve.specs.DoorMoves.{AreFreshDoors, HasFailedDoor, MovesDoors}
+use Rattle.page_serve.specs.Seating.{SeatsAll}
 use Rattle.page_serve.specs.SummaryLines.{has_door_fault}
 use Rattle.page_serve.specs.Workers.{HasEnded, HaveServed, IsServed, WorkersEnd, doors_of_ends, doors_of_workers}
 use Rattle.page_serve.proofs.DoorMoving.{all_returned}
@@ -22,6 +24,11 @@ use Rattle.page_serve.proofs.DoorMoving.{all_returned}
 pub each_weaker : {X : Type 0} (P Q : X → Type 0) (xs : List X) → ((x : X) → P x → Q x) → Each P xs → Each Q xs
 each_weaker P Q [] f h = tt
 each_weaker P Q (x ∷ xs) f h = (f x h.0, each_weaker P Q xs f h.1)
+
+-- viewers that were given their places have seen the desk's list
+pub seen_sets : {V : Type 0} (desk : Published V) (count : ℕ) (viewers : List (Watched V)) → SeatsAll desk count viewers
+    → Each (λ viewer. viewer.sets ≡ desk.sets) viewers
+seen_sets desk count viewers h = each_weaker (Seats desk) (λ viewer. viewer.sets ≡ desk.sets) viewers (λ viewer seat. seat.sets) h.seated
 
 one_of_two : (a b : Bool) → (a || b) ≡ true → (a ≡ true) ⊎ (b ≡ true)
 one_of_two true b h = inl refl

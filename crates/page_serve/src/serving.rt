@@ -77,16 +77,15 @@ where
     ensures out_later { O.faults out.old ≤ O.faults out.new }
 {
     match Desk::open(alloc, rt, first) {
-        Ok(desk) => serve_named::<Brand, P, F, O, N, T, Q, R>(
+        Ok(desk) => serve_desk(
             alloc, rt, desk, folder, dir, address, workers, links, out, net, spawn, seats,
         ),
         Err(Memory) => (Err(ServeStop::Memory), folder),
     }
 }
 
-// Serves at the desk that `J` names.
-fn serve_named<
-    J: Named + Send + Sync,
+// Serves at a desk.
+fn serve_desk<
     P: Pages + Drop + Send + Sync,
     F: Folder + Send,
     O: Sink,
@@ -112,7 +111,6 @@ where
     N::Door: Send + Drop,
     <N::Door as Door>::Link: Send,
     P::Refused: Send,
-    requires { desk.book ≡ J.desk }
     ensures answers { ServeAnswers N.Door.told N.Door.faults
         (AnswersBySet P.execution P.made_of P.is_execution P.is_sound)
         N.Door.Link.left N.Door.Link.taken N.Door.Link.faults desk.sets workers links
@@ -134,10 +132,9 @@ where
             return (Err(stop), folder);
         }
     };
-    let back: Back<F, P, Told<P>, J> = Back::new(desk, folder, dir);
-    let office = Office::new(back);
-    let done = serve_at(alloc, rt, &office, doors, viewers, links, out, net, spawn);
-    (done, office.close(rt))
+    serve_named::<Brand, P, F, O, N, T, R>(
+        alloc, rt, desk, folder, dir, doors, viewers, links, out, net, spawn,
+    )
 }
 
 // A door and a viewer for each of so many workers, or no doors.
@@ -178,8 +175,8 @@ where
     }
 }
 
-// Serves with an office, doors that the net gave before, and viewers.
-fn serve_at<
+// Serves at the desk that `J` names, at doors that the net gave before and with viewers of the desk.
+fn serve_named<
     J: Named + Send + Sync,
     P: Pages + Drop + Send + Sync,
     F: Folder + Send,
@@ -190,14 +187,16 @@ fn serve_at<
 >(
     alloc: Global,
     rt: &R,
-    office: &Office<F, P, Told<P>, J>,
+    desk: Desk<P, Told<P>>,
+    folder: F,
+    dir: Text,
     doors: List<N::Door>,
     viewers: List<Viewer<P, Told<P>>>,
     links: u32,
     out: &mut O,
     net: &mut N,
     spawn: &mut T,
-) -> Result<(), ServeStop>
+) -> (Result<(), ServeStop>, F)
 where
     N::Door: Send + Drop,
     <N::Door as Door>::Link: Send,
@@ -206,26 +205,29 @@ where
     requires out { HaveDoorsOut (length doors) (N.told net.old) }
     requires count { length doors < 2 ^ 32 }
     requires same { length viewers ≡ length doors }
-    requires desk { Each (λ viewer. viewer.book ≡ J.desk) viewers }
+    requires desk { desk.book ≡ J.desk }
+    requires viewers { Each (λ viewer. viewer.book ≡ J.desk) viewers }
     ensures answers { (sets : List P) (before : Option (NetTold N.Door))
         → Each (λ viewer. viewer.sets ≡ sets) viewers
         → BothTold before (N.told net.old) (λ old now. MovesDoors old now (length doors) [])
         → ServeAnswers N.Door.told N.Door.faults
         (AnswersBySet P.execution P.made_of P.is_execution P.is_sound)
         N.Door.Link.left N.Door.Link.taken N.Door.Link.faults sets (length doors) links
-        before (N.told net.new) (O.taken out.old) (O.taken out.new) ⊥ result }
+        before (N.told net.new) (O.taken out.old) (O.taken out.new) ⊥ result.0 }
     ensures cause { ServeCause (Rose (N.faults net.old) (N.faults net.new))
         (Rose (T.faults spawn.old) (T.faults spawn.new)) ⊥
-        (Rose (O.faults out.old) (O.faults out.new)) result }
+        (Rose (O.faults out.old) (O.faults out.new)) result.0 }
     ensures net_later { N.faults net.old ≤ N.faults net.new }
     ensures spawn_later { T.faults spawn.old ≤ T.faults spawn.new }
     ensures out_later { O.faults out.old ≤ O.faults out.new }
 {
-    match run_workers(alloc, rt, office, doors, viewers, links, spawn) {
-        Ok(ends) => report(alloc, ends, net, out),
+    let back: Back<F, P, Told<P>, J> = Back::new(desk, folder, dir);
+    let office = Office::new(back);
+    match run_workers(alloc, rt, &office, doors, viewers, links, spawn) {
+        Ok(ends) => (report(alloc, ends, net, out), office.close(rt)),
         Err(not_run) => {
             close_doors(net, not_run.doors);
-            Err(not_run.stop)
+            (Err(not_run.stop), office.close(rt))
         }
     }
 }

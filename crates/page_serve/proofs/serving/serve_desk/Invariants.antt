@@ -1,4 +1,4 @@
-use Rattle.page_serve.proofs.serving.serve.Given as goal
+use Rattle.page_serve.proofs.serving.serve_desk.Given as goal
 
 -- the desk that was just opened
 abbrev pub ghosts-serve_named : goal.ghosts-serve_named
