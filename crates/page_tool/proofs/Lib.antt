@@ -10,6 +10,7 @@ pub mod Pages
 pub mod Parsing
 pub mod Renderings
 pub mod SectionSteps
+pub mod SentSets
 pub mod ServeEndings
 pub mod ServeExamples
 pub mod ServeRuns

@@ -204,7 +204,7 @@ serve_needs held dir s c e = refused_free held dir (subst (λ (x : Status). Serv
 -- a folder that is the one with which the first set was made is as before
 pub same_folder : {F : Type 0} (held : F → Option FolderContents) (faults : F → ℕ) (first begun last : F) → held begun ≡ held first
     → faults first ≤ faults begun → last ≡ begun → (held last ≡ held first) × (faults first ≤ faults last)
-same_folder held faults first begun last kept later same =
+same_folder {F = F} held faults first begun last kept later same =
     (ap held same ∙ kept, subst (λ (f : F). faults first ≤ faults f) (sym same) later)
 
 -- what was done
