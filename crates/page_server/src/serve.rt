@@ -140,14 +140,13 @@ fn serve_all<P: Pages + Drop, S: Notice<P>, J: Named, C: Clerk<P, S, J>, L: Link
 /// What was written is a reply to each request, in order, and after `LinkFault` a part of one more.
 /// Want of memory is answered 503, which closes the connection; for the bytes of a request it ends
 /// the link with `Memory`. `LinkFault` comes only where the link's count of faults rose.
-pub fn serve_link<
-    P: Pages + Drop,
-    S: Notice<P>,
-    J: Named,
-    C: Clerk<P, S, J>,
-    L: Link,
-    R: Wait,
->(alloc: Global, rt: &R, viewer: &mut Viewer<P, S>, clerk: &mut C, link: &mut L) -> LinkEnd
+pub fn serve_link<P: Pages + Drop, S: Notice<P>, J: Named, C: Clerk<P, S, J>, L: Link, R: Wait>(
+    alloc: Global,
+    rt: &R,
+    viewer: &mut Viewer<P, S>,
+    clerk: &mut C,
+    link: &mut L,
+) -> LinkEnd
     requires { viewer.old.book ≡ J.desk }
     ensures serves { ServesLink (AnswersBySet P.execution P.made_of P.is_execution P.is_sound)
         (session (L.left link.old) (L.taken link.old) (C.given clerk.old) viewer.old)
