@@ -1,11 +1,11 @@
 // The net of a row.
-ghost use Rattle.std.specs.Prelude.{All, IfOk};
+ghost use Rattle.std.specs.Prelude.{IfOk};
 ghost use Rattle.page_net.specs.Doors.{IsFreshDoor};
 
 use crate::settings::{doors_of, fails_of};
 use case_table::{CaseOutput, CaseStop, list_of, text_of};
 use page_datum::Datum;
-use page_io::{Bytes, List, Memory};
+use page_io::{Bytes, List};
 use page_net::{Door, MemDoor, MemLink, MemNet};
 use std::alloc::Global;
 
@@ -14,41 +14,14 @@ const ROOM: u64 = 10_000;
 
 const STEP: u64 = 100;
 
-// Doors of which none has failed or got a link back.
-#[derive(Drop)]
-struct FreshDoors<D: Door> {
-    doors: List<D>,
-    ghost fresh: { All (λ d. IsFreshDoor (D.faults d) (D.told d)) doors },
-}
-
-impl<D: Door + Drop> FreshDoors<D> {
-    fn new(alloc: Global) -> FreshDoors<D> {
-        FreshDoors {
-            doors: List::new(alloc),
-        }
-    }
-
-    fn push(&mut self, door: D) -> Result<(), Memory>
-        requires { IsFreshDoor (D.faults door) (D.told door) }
-    {
-        self.doors.push(door)
-    }
-
-    fn into_list(self) -> List<D>
-        ensures { All (λ d. IsFreshDoor (D.faults d) (D.told d)) result }
-    {
-        self.doors
-    }
-}
-
 /// The net of a row's settings, over memory.
 pub fn net_of(alloc: Global, settings: &[Datum]) -> Result<MemNet<MemLink>, CaseStop> {
-    let mut doors = FreshDoors::new(alloc);
+    let mut doors = List::new(alloc);
     for door in doors_of(settings)? {
         doors.push(door_of(alloc, list_of(door)?, settings)?)?;
     }
     let fails = fails_of(alloc, settings, "net fails")?;
-    Ok(MemNet::new(alloc, doors.into_list(), fails)?)
+    Ok(MemNet::new(alloc, doors, fails)?)
 }
 
 /// Writes what the links got that are back, those of one door after those of another.
