@@ -1,16 +1,14 @@
-use crate::net::{net_of, put_links};
+ghost use Rattle.std.specs.Prelude.{◌≡◌};
+ghost use Rattle.page_tool.specs.ServeWords as spec;
+ghost use Rattle.page_tool.specs.Words.{texts};
+
 use crate::settings::{fails_of, settings_of, step_of};
 use case_data::mem_file;
 use case_table::{CaseOutput, CaseRow, CaseStop, pair_of, text_of};
 use page_datum::Datum;
 use page_io::{List, MemFile, MemFolder, MemSink, MemSource};
-use page_net::{MemLink, MemNet};
-use page_spawn::InlineSpawner;
-use page_tool::{Status, run};
-use set_publisher::PackSeats;
+use page_tool::{Status, run_files};
 use std::alloc::Global;
-use std::sync::Wait;
-use std::thread::Threads;
 
 // The directory of the files of a row.
 const DIR: &str = "D";
@@ -25,24 +23,10 @@ const OUTPUT_STEP: u64 = 100;
 
 const LINES_STEP: u64 = 5;
 
-/// Writes what a call of `page_tool` gives: how a command ends and what it writes; the same and what the links of `serve` got; and the
-/// number of a status.
-pub fn put_commands<R: Threads + Wait + Sync>(
-    rt: &R,
-    out: &mut CaseOutput,
-    call: &str,
-    row: &CaseRow,
-) -> Result<(), CaseStop> {
+/// Writes what a call of `page_tool` gives: how a command ends and what it writes, and the number of a status.
+pub fn put_commands(out: &mut CaseOutput, call: &str, row: &CaseRow) -> Result<(), CaseStop> {
     match call {
-        "run" => {
-            put_run(rt, out, row)?;
-            Ok(())
-        }
-        "serve" => {
-            let net = put_run(rt, out, row)?;
-            put_links(out, &net);
-            Ok(())
-        }
+        "run" => put_run(out, row),
         "code" => {
             out.put_count(status_of(row.text(0)?)?.code() as u64);
             Ok(())
@@ -51,67 +35,47 @@ pub fn put_commands<R: Threads + Wait + Sync>(
     }
 }
 
-// Writes what a command gives: the row has the files, the words, the input and the settings. The net comes back.
-fn put_run<R: Threads + Wait + Sync>(
-    rt: &R,
-    out: &mut CaseOutput,
-    row: &CaseRow,
-) -> Result<MemNet<MemLink>, CaseStop> {
+// Writes what a command gives: the row has the files, the words, the input and the settings.
+fn put_run(out: &mut CaseOutput, row: &CaseRow) -> Result<(), CaseStop> {
     let alloc = out.alloc();
     let settings = settings_of(row.list(3)?)?;
     let words = words_of(alloc, row.part(1)?)?;
     let folder = folder_of(alloc, row.list(0)?, settings)?;
     let input = input_of(alloc, row, settings)?;
     let output = output_of(alloc, settings)?;
-    let mut net = net_of(alloc, settings)?;
-    let spawner: InlineSpawner<R> = InlineSpawner::new(fails_of(alloc, settings, "spawner fails")?);
-    let seats = PackSeats::new(fails_of(alloc, settings, "seats fail")?);
-    put_command(
-        rt,
-        out,
-        words.as_slice(),
-        folder,
-        input,
-        output,
-        &mut net,
-        spawner,
-        seats,
-    )?;
-    Ok(net)
+    put_command(out, words.as_slice(), folder, input, output)
 }
 
-// Writes how a command over these devices ends: the status with its number, the output, and the lines for people. The workers of `serve`
-// run one after another.
-fn put_command<R: Threads + Wait + Sync>(
-    rt: &R,
+// Writes how a command over these devices ends: the status with its number, the output, and the lines for people.
+fn put_command(
     out: &mut CaseOutput,
     words: &[String],
     folder: MemFolder,
-    mut input: MemSource,
-    mut output: MemSink,
-    net: &mut MemNet<MemLink>,
-    mut spawner: InlineSpawner<R>,
-    mut seats: PackSeats,
+    input: MemSource,
+    output: MemSink,
 ) -> Result<(), CaseStop> {
+    if begins_serve(words) {
+        return Err(CaseStop::Form);
+    }
     let alloc = out.alloc();
+    let (mut input, mut output) = (input, output);
     let mut lines = MemSink::new(alloc, ROOM, LINES_STEP, List::new(alloc))?;
-    let (status, _) = run(
-        alloc,
-        rt,
-        words,
-        folder,
-        &mut input,
-        &mut output,
-        &mut lines,
-        net,
-        &mut spawner,
-        &mut seats,
-    );
+    let (status, _) = run_files(alloc, words, folder, &mut input, &mut output, &mut lines);
     if status == Status::Memory {
         return Err(CaseStop::Memory);
     }
     put_end(out, status, output.taken(), lines.taken());
     Ok(())
+}
+
+// Whether the words are those of `serve`, which waits: a table has none of them.
+fn begins_serve(words: &[String]) -> bool
+    ensures { result ≡ spec.begins_serve (texts words.now) }
+{
+    match words.first() {
+        Some(name) => name.as_str() == "serve",
+        None => false,
+    }
 }
 
 fn put_end(out: &mut CaseOutput, status: Status, output: &[u8], lines: &[u8]) {

@@ -2,7 +2,6 @@
 #![tactic(auto)]
 
 mod commands;
-mod net;
 mod pages;
 mod settings;
 

@@ -9,8 +9,6 @@ pub fn settings_of(settings: &[Datum]) -> Result<&[Datum], CaseStop> {
         let (name, _) = pair_of(setting)?;
         match text_of(name)? {
             "folder fails" | "input fails" | "output fails" | "input step" | "output step" => {}
-            "doors" | "net fails" | "seats fail" | "spawner fails" => {}
-            "door fails" | "link fails" => {}
             _ => return Err(CaseStop::Form),
         }
     }
@@ -26,14 +24,6 @@ fn setting<'a>(settings: &'a [Datum], name: &str) -> Result<Option<&'a Datum>, C
         }
     }
     Ok(None)
-}
-
-/// The doors of a net, each a list of what its links give: none where no setting says it.
-pub fn doors_of(settings: &[Datum]) -> Result<&[Datum], CaseStop> {
-    match setting(settings, "doors")? {
-        Some(value) => list_of(value),
-        None => Ok(&[]),
-    }
 }
 
 /// The calls on a device that are to fail.

@@ -10,24 +10,21 @@ use case_places::{
 };
 use case_table::{CaseOutput, CaseRow, CaseStop, Subject};
 use case_templates::{put_executions, put_files, put_printed, put_symbols, put_tokens, put_trees};
-use std::sync::Wait;
-use std::thread::Threads;
 
-/// The libraries of the engine, whose public calls a table has, on a system and with its threads.
+/// The libraries of the engine, whose public calls a table has, on a system.
 #[derive(Drop)]
-pub struct Engine<'r, T> {
+pub struct Engine<'r> {
     rt: &'r HostRuntime,
-    threads: &'r T,
 }
 
-impl<'r, T: Threads + Wait + Sync> Engine<'r, T> {
+impl<'r> Engine<'r> {
     /// The engine on this system.
-    pub fn new(rt: &'r HostRuntime, threads: &'r T) -> Engine<'r, T> {
-        Engine { rt, threads }
+    pub fn new(rt: &'r HostRuntime) -> Engine<'r> {
+        Engine { rt }
     }
 }
 
-impl<'r, T: Threads + Wait + Sync> Subject for Engine<'r, T> {
+impl<'r> Subject for Engine<'r> {
     fn answer(&self, out: &mut CaseOutput, call: &str, row: &CaseRow) -> Result<(), CaseStop> {
         let Some((library, call)) = call.split_once('/') else {
             return Err(CaseStop::Form);
@@ -39,7 +36,7 @@ impl<'r, T: Threads + Wait + Sync> Subject for Engine<'r, T> {
             return put_of_templates(out, library, call, row);
         }
         if library.starts_with("page_") {
-            return put_of_pages(self.threads, out, library, call, row);
+            return put_of_pages(out, library, call, row);
         }
         put_of_html(out, library, call, row)
     }
@@ -66,8 +63,7 @@ fn put_of_templates(
 }
 
 // Writes what a call of a library of data, devices and pages gives.
-fn put_of_pages<T: Threads + Wait + Sync>(
-    threads: &T,
+fn put_of_pages(
     out: &mut CaseOutput,
     library: &str,
     call: &str,
@@ -77,7 +73,7 @@ fn put_of_pages<T: Threads + Wait + Sync>(
         "page_io" => put_devices(out, call, row),
         "page_datum" => put_data(out, call, row),
         "page_set" => put_pages(out, call, row),
-        "page_tool" => put_commands(threads, out, call, row),
+        "page_tool" => put_commands(out, call, row),
         "page_http" => put_http(out, call, row),
         _ => Err(CaseStop::Form),
     }

@@ -10,8 +10,6 @@ use case_table::{CaseStop, report_of};
 use page_datum::read_datum;
 use page_io::{Bytes, IoStop, ReadSource, Text, read_up_to};
 use std::process::ExitCode;
-use std::sync::Wait;
-use std::thread::Threads;
 use std::{env, fs, io};
 
 // The most bytes of a file of cases.
@@ -23,7 +21,7 @@ fn main(rt: HostRuntime) -> ExitCode {
     };
     let mut holds = true;
     for file in words.skip(1) {
-        match is_held(&rt, &rt, file.as_str()) {
+        match is_held(&rt, file.as_str()) {
             Ok(true) => {}
             Ok(false) => holds = false,
             Err(_) => return ExitCode::from(6),
@@ -33,12 +31,8 @@ fn main(rt: HostRuntime) -> ExitCode {
 }
 
 // Prints the report of a file, and says whether the file holds.
-fn is_held<T: Threads + Wait + Sync>(
-    rt: &HostRuntime,
-    threads: &T,
-    name: &str,
-) -> io::Result<bool> {
-    match report(rt, threads, name) {
+fn is_held(rt: &HostRuntime, name: &str) -> io::Result<bool> {
+    match report(rt, name) {
         Ok(report) if report.is_empty() => {
             println!(rt; "{name}: holds")?;
             Ok(true)
@@ -56,18 +50,14 @@ fn is_held<T: Threads + Wait + Sync>(
 }
 
 // The report of a file, or why its cases cannot be run.
-fn report<T: Threads + Wait + Sync>(
-    rt: &HostRuntime,
-    threads: &T,
-    name: &str,
-) -> Result<Text, &'static str> {
+fn report(rt: &HostRuntime, name: &str) -> Result<Text, &'static str> {
     let Ok(bytes) = bytes_of(rt, name) else {
         return Err("the file cannot be read");
     };
     let Ok(table) = read_datum(rt.alloc(), bytes.as_slice()) else {
         return Err("no JSON");
     };
-    match report_of(rt.alloc(), name, &table, &Engine::new(rt, threads)) {
+    match report_of(rt.alloc(), name, &table, &Engine::new(rt)) {
         Ok(report) => Ok(report),
         Err(CaseStop::Form) => Err("not the form of a table of cases"),
         Err(CaseStop::Memory) => Err("out of memory"),
