@@ -1,13 +1,9 @@
-ghost use Rattle.std.specs.Prelude.{◌≡◌};
-ghost use Rattle.page_tool.specs.ServeWords as spec;
-ghost use Rattle.page_tool.specs.Words.{texts};
-
 use crate::settings::{fails_of, settings_of, step_of};
 use case_data::mem_file;
 use case_table::{CaseOutput, CaseRow, CaseStop, pair_of, text_of};
 use page_datum::Datum;
 use page_io::{List, MemFile, MemFolder, MemSink, MemSource};
-use page_tool::{Status, run_files};
+use page_tool::{Status, begins_serve, run_files};
 use std::alloc::Global;
 
 // The directory of the files of a row.
@@ -54,6 +50,7 @@ fn put_command(
     input: MemSource,
     output: MemSink,
 ) -> Result<(), CaseStop> {
+    // `serve` waits: a table has no row of it.
     if begins_serve(words) {
         return Err(CaseStop::Form);
     }
@@ -66,16 +63,6 @@ fn put_command(
     }
     put_end(out, status, output.taken(), lines.taken());
     Ok(())
-}
-
-// Whether the words are those of `serve`, which waits: a table has none of them.
-fn begins_serve(words: &[String]) -> bool
-    ensures { result ≡ spec.begins_serve (texts words.now) }
-{
-    match words.first() {
-        Some(name) => name.as_str() == "serve",
-        None => false,
-    }
 }
 
 fn put_end(out: &mut CaseOutput, status: Status, output: &[u8], lines: &[u8]) {

@@ -19,5 +19,6 @@ mod stop;
 mod top;
 mod words;
 
+pub use serve_words::begins_serve;
 pub use status::Status;
 pub use top::{run, run_files};

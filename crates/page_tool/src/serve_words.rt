@@ -57,7 +57,7 @@ struct ServeSaid<'a> {
     awaited: Option<ServeOption>,
 }
 
-/// Whether the first word is `serve`.
+/// Whether the first word is `serve`: `run_files` may be asked only where it is not.
 pub fn begins_serve(words: &[String]) -> bool
     ensures { result ≡ spec.begins_serve (texts words.now) }
 {
