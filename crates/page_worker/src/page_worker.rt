@@ -37,7 +37,7 @@ pub struct PageWorker<
     door: D,
     viewer: Viewer<P, S>,
     clerk: C,
-    links: u32,
+    links: u64,
     of: PhantomData<J>,
 }
 
@@ -72,7 +72,7 @@ impl<'r, D: Door, P: Pages + Drop, S: Notice<P>, C: Clerk<P, S, J>, J: Named, R:
         door: D,
         viewer: Viewer<P, S>,
         clerk: C,
-        links: u32,
+        links: u64,
     ) -> PageWorker<'r, D, P, S, C, J, R>
         requires { viewer.book ≡ J.desk }
         ensures { result ≡ record { door = door; viewer = viewer; clerk = clerk; links = links } }
@@ -97,7 +97,7 @@ impl<'r, D: Door, P: Pages + Drop, S: Notice<P>, C: Clerk<P, S, J>, J: Named, R:
     {
         let mut room = LinkRoom::new(self.alloc);
         let mut end = WorkEnd::new();
-        while end.links < u64::from(self.links) {
+        while end.links < self.links {
             let (door, viewer, clerk) = (&mut self.door, &mut self.viewer, &mut self.clerk);
             match serve_next(self.alloc, self.rt, door, viewer, clerk, &mut room) {
                 Ok(Some(link)) => end.add(link),
