@@ -5,7 +5,7 @@ use page_datum::Pages;
 use page_io::{Bytes, List, MemFolder, Memory, Text};
 use page_net::SureLink;
 use page_office::{Back, Office, OfficeClerk};
-use page_server::{LinkEnd, serve_link};
+use page_server::{LinkEnd, LinkRoom, serve_link};
 use page_set::{MakeRefused, PageSet};
 use set_publisher::{Desk, Named, Told, Viewer};
 use std::alloc::{AllocError, Global};
@@ -70,7 +70,8 @@ fn served<J: Named, R: Wait + Sync>(
     );
     let office = Office::new(back);
     let mut clerk = OfficeClerk::new(&office);
-    let end = serve_link(alloc, rt, &mut viewer, &mut clerk, &mut link);
+    let mut room = LinkRoom::new(alloc);
+    let end = serve_link(alloc, rt, &mut viewer, &mut clerk, &mut link, &mut room);
     let _folder = office.close(rt);
     end
 }

@@ -141,7 +141,7 @@ fn answers<N: Net, T: Spawner, R: Wait + Sync>(
     folder: MemFolder,
     calls: FailingCalls,
     workers: u32,
-    links: u32,
+    links: u64,
     answer: Result<(), ServeStop>,
     lines: &str,
 ) -> Result<bool, Memory>

@@ -49,7 +49,7 @@ pub fn run_workers<
     office: &Office<F, P, Told<P>, J>,
     doors: List<D>,
     viewers: List<Viewer<P, Told<P>>>,
-    links: u32,
+    links: u64,
     spawn: &mut T,
 ) -> Result<List<Ended<D>>, NotRun<D>>
 where
@@ -98,7 +98,7 @@ fn put_workers<'r, D: Door + Drop, F: Folder, P: Pages + Drop, J: Named, R: Wait
     office: &'r Office<F, P, Told<P>, J>,
     doors: &mut Vec<D>,
     mut viewers: Vec<Viewer<P, Told<P>>>,
-    links: u32,
+    links: u64,
     workers: &mut Vec<OfficeWorker<'r, D, F, P, J, R>>,
 )
     requires none { workers.old.items ≡ [] }

@@ -19,7 +19,7 @@ use std::sync::Wait;
 pub(crate) fn answer<P: Pages + Drop, S: Notice<P>, J: Named, C: Clerk<P, S, J>, R: Wait>(
     alloc: Global,
     rt: &R,
-    routes: &Result<Routes, Memory>,
+    routes: Option<&Routes>,
     viewer: &mut Viewer<P, S>,
     clerk: &mut C,
     request: &Request,
@@ -33,7 +33,7 @@ pub(crate) fn answer<P: Pages + Drop, S: Notice<P>, J: Named, C: Clerk<P, S, J>,
     ensures learnt { MayHaveLearnt viewer.old viewer.new }
     ensures sendable { IfOk result IsSendable }
 {
-    let Ok(routes) = routes else {
+    let Some(routes) = routes else {
         return Err(Memory);
     };
     match reply_to(alloc, routes, viewer.set(), request, number) {

@@ -12,7 +12,7 @@ use std::alloc::{AllocError, Global};
 const FIRST_ROOM: usize = 16_384;
 
 /// The bytes that were read from a link and are not answered yet, in one piece of memory that is
-/// kept from one request to the next. They are those from `start` to `end`: `held_in` of
+/// kept from one request to the next, and from one link to the next. They are those from `start` to `end`: `held_in` of
 /// `specs/Held.antt`.
 #[derive(Drop)]
 pub(crate) struct Buffer {
@@ -55,6 +55,14 @@ impl Buffer {
             ↔ (slice_range self.now.room.items self.now.start self.now.end ≡ []) }
     {
         self.as_slice().is_empty()
+    }
+
+    /// Lets go of all bytes, and keeps the memory.
+    pub(crate) fn clear(&mut self)
+        ensures { slice_range self.new.room.items self.new.start self.new.end ≡ [] }
+    {
+        self.start = 0;
+        self.end = 0;
     }
 
     /// Lets go of the first bytes.

@@ -7,6 +7,7 @@ mod buffer;
 mod end;
 mod incoming;
 mod laws;
+mod link_room;
 mod outgoing;
 mod respond;
 mod send;
@@ -17,4 +18,5 @@ mod turn;
 
 pub use end::{LinkEnd, LinkWhy};
 pub use laws::{pages_are_answered, replies_are_in_order};
+pub use link_room::LinkRoom;
 pub use serve::{MAX_REQUESTS, serve_link};

@@ -23,7 +23,7 @@ use std::sync::Wait;
 pub(crate) fn respond<P: Pages + Drop, S: Notice<P>, J: Named, C: Clerk<P, S, J>, R: Wait>(
     alloc: Global,
     rt: &R,
-    routes: &Result<Routes, Memory>,
+    routes: Option<&Routes>,
     viewer: &mut Viewer<P, S>,
     clerk: &mut C,
     bytes: &[u8],
@@ -60,7 +60,7 @@ fn closes(request: &Request, last: bool) -> bool
 fn to_request<P: Pages + Drop, S: Notice<P>, J: Named, C: Clerk<P, S, J>, R: Wait>(
     alloc: Global,
     rt: &R,
-    routes: &Result<Routes, Memory>,
+    routes: Option<&Routes>,
     viewer: &mut Viewer<P, S>,
     clerk: &mut C,
     bytes: &[u8],

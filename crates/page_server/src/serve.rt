@@ -12,12 +12,12 @@ ghost use Rattle.page_server.specs.declared.turn.Turn.TheVariants as turn;
 use crate::buffer::Buffer;
 use crate::end::{LinkEnd, LinkWhy};
 use crate::incoming::read_incoming;
+use crate::link_room::LinkRoom;
 use crate::respond::respond;
 use crate::send::send;
 use crate::turn::Turn;
 use page_datum::Pages;
 use page_http::Routes;
-use page_io::Memory;
 use page_net::Link;
 use page_office::Clerk;
 use set_publisher::{Named, Notice, Viewer};
@@ -57,7 +57,7 @@ fn closed(requests: u32, number: u64) -> LinkEnd
 fn serve_one<P: Pages + Drop, S: Notice<P>, J: Named, C: Clerk<P, S, J>, L: Link, R: Wait>(
     alloc: Global,
     rt: &R,
-    routes: &Result<Routes, Memory>,
+    routes: Option<&Routes>,
     viewer: &mut Viewer<P, S>,
     clerk: &mut C,
     link: &mut L,
@@ -92,6 +92,7 @@ fn serve_all<P: Pages + Drop, S: Notice<P>, J: Named, C: Clerk<P, S, J>, L: Link
     viewer: &mut Viewer<P, S>,
     clerk: &mut C,
     link: &mut L,
+    room: &mut LinkRoom,
 ) -> LinkEnd
     requires { viewer.old.book ≡ J.desk }
     ensures serves { ServesLink (AnswersBySet P.execution P.made_of P.is_execution P.is_sound)
@@ -101,19 +102,18 @@ fn serve_all<P: Pages + Drop, S: Notice<P>, J: Named, C: Clerk<P, S, J>, L: Link
     ensures later { L.faults link.old ≤ L.faults link.new }
     ensures cause { result.why ≡ why.LinkFault → Rose (L.faults link.old) (L.faults link.new) }
 {
-    let routes = Routes::new(alloc);
-    let mut buffer = Buffer::new(alloc);
+    room.begin(alloc);
     let mut requests = 0;
     let mut last = 0;
     loop {
         match serve_one(
             alloc,
             rt,
-            &routes,
+            room.routes.as_ref(),
             viewer,
             clerk,
             link,
-            &mut buffer,
+            &mut room.buffer,
             is_last(requests),
         ) {
             Turn::Replied(number) => {
@@ -135,7 +135,8 @@ fn serve_all<P: Pages + Drop, S: Notice<P>, J: Named, C: Clerk<P, S, J>, L: Link
 /// Serves a link: reads requests one after another, and answers each before it reads the next,
 /// until the link's bytes end, a reply closes the connection, or the link fails. For each request
 /// the viewer looks once, and the reply is by the set that it has seen then; a request for a reload
-/// is handed to the clerk. It may wait: for the link, and for the clerk.
+/// is handed to the clerk. It may wait: for the link, and for the clerk. The room is for any link:
+/// what earlier links left in it is not seen on this one.
 ///
 /// What was written is a reply to each request, in order, and after `LinkFault` a part of one more.
 /// Want of memory is answered 503, which closes the connection; for the bytes of a request it ends
@@ -146,6 +147,7 @@ pub fn serve_link<P: Pages + Drop, S: Notice<P>, J: Named, C: Clerk<P, S, J>, L:
     viewer: &mut Viewer<P, S>,
     clerk: &mut C,
     link: &mut L,
+    room: &mut LinkRoom,
 ) -> LinkEnd
     requires { viewer.old.book ≡ J.desk }
     ensures serves { ServesLink (AnswersBySet P.execution P.made_of P.is_execution P.is_sound)
@@ -158,5 +160,5 @@ pub fn serve_link<P: Pages + Drop, S: Notice<P>, J: Named, C: Clerk<P, S, J>, L:
     ensures later { L.faults link.old ≤ L.faults link.new }
     ensures cause { result.why ≡ why.LinkFault → Rose (L.faults link.old) (L.faults link.new) }
 {
-    serve_all(alloc, rt, viewer, clerk, link)
+    serve_all(alloc, rt, viewer, clerk, link, room)
 }

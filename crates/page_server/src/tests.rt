@@ -2,6 +2,7 @@ ghost use Rattle.std.specs.Prelude.{◌≡◌, ◌++◌, OnOk};
 ghost use Rattle.page_datum.specs.Lines.{HasPrefix};
 
 use crate::end::{LinkEnd, LinkWhy};
+use crate::link_room::LinkRoom;
 use crate::serve::serve_link;
 use page_datum::{Datum, Files, NamedFile, PageEnd, PageStop, Pages, Shown};
 use page_io::{Bytes, Failed, List, MemFile, MemFolder, Memory, Sink, Text, write_all};
@@ -146,6 +147,7 @@ fn is_served<C: Clerk<GreetingSet, Told<GreetingSet>, J>, J: Named, R: Wait + Sy
     alloc: Global,
     clerk: &mut C,
     viewer: &mut GreetingViewer,
+    room: &mut LinkRoom,
     case: Case<'_>,
 ) -> bool
     requires { viewer.old.book ≡ J.desk }
@@ -153,14 +155,14 @@ fn is_served<C: Clerk<GreetingSet, Told<GreetingSet>, J>, J: Named, R: Wait + Sy
 {
     match link_of(alloc, case) {
         Ok(mut link) => {
-            let end = serve_link(alloc, rt, viewer, clerk, &mut link);
+            let end = serve_link(alloc, rt, viewer, clerk, &mut link, room);
             end == case.end && link.taken() == case.written
         }
         Err(Memory) => false,
     }
 }
 
-// Serves links one after another, with one clerk and one viewer.
+// Serves links one after another, with one clerk, one viewer and one room.
 fn are_served<J: Named, R: Wait + Sync>(
     rt: &R,
     alloc: Global,
@@ -176,9 +178,10 @@ fn are_served<J: Named, R: Wait + Sync>(
     let back: Back<MemFolder, GreetingSet, Told<GreetingSet>, J> = Back::new(desk, folder, dir);
     let office = Office::new(back);
     let mut clerk = OfficeClerk::new(&office);
+    let mut room = LinkRoom::new(alloc);
     let mut good = true;
     for case in cases {
-        good &= is_served(rt, alloc, &mut clerk, &mut viewer, *case);
+        good &= is_served(rt, alloc, &mut clerk, &mut viewer, &mut room, *case);
     }
     let _folder = office.close(rt);
     good

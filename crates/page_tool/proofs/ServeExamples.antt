@@ -3,7 +3,7 @@ use Rattle.std.proofs.Common.{◌≡◌, ℕ, codes, List, [], ◌∷◌, Some, 
 use Rattle.page_tool.specs.ServeWords.{service_of}
 
 two-words : service_of (codes "serve" ∷ codes "D" ∷ codes "x" ∷ codes "--workers" ∷ codes "2" ∷ [])
-    ≡ Some (record { dir = codes "D"; address = codes "x"; workers = 2; links = 4294967295 })
+    ≡ Some (record { dir = codes "D"; address = codes "x"; workers = 2; links = 18446744073709551615 })
 two-words = refl
 
 options-stand-anywhere : service_of (codes "serve" ∷ codes "--links=007" ∷ codes "D" ∷ codes "--workers" ∷ codes "16" ∷ codes "x" ∷ [])

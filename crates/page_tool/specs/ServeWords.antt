@@ -19,7 +19,7 @@ abbrev pub max_links : ℕ
 max_links = 1000000
 
 abbrev pub links_unsaid : ℕ
-links_unsaid = 4294967295
+links_unsaid = 18446744073709551615
 
 -- the options of `serve`
 pub data ServeOption : Type 0 where

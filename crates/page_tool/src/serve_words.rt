@@ -13,7 +13,7 @@ const MAX_WORKERS: u32 = 16;
 const MAX_LINKS: u32 = 1_000_000;
 
 /// How many links a worker serves where no words say it.
-const LINKS_UNSAID: u32 = 4_294_967_295;
+const LINKS_UNSAID: u64 = 18_446_744_073_709_551_615;
 
 /// How to serve: `serve DIR ADDR --workers N [--links K]`.
 #[derive(Clone, Copy)]
@@ -25,7 +25,7 @@ pub struct Service<'a> {
     /// How many workers there are.
     pub workers: u32,
     /// How many links each of them serves at most.
-    pub links: u32,
+    pub links: u64,
 }
 
 // An option of `serve`.
@@ -205,7 +205,7 @@ impl<'a> ServeSaid<'a> {
         let address = self.address?;
         let workers = self.workers?;
         let links = match self.links {
-            Some(links) => links,
+            Some(links) => u64::from(links),
             None => LINKS_UNSAID,
         };
         Some(Service {

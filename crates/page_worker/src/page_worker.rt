@@ -12,7 +12,7 @@ use page_datum::Pages;
 use page_io::Failed;
 use page_net::{Came, Door};
 use page_office::Clerk;
-use page_server::{LinkEnd, serve_link};
+use page_server::{LinkEnd, LinkRoom, serve_link};
 use page_spawn::Worker;
 use set_publisher::{Named, Notice, Viewer};
 use std::alloc::Global;
@@ -37,7 +37,7 @@ pub struct PageWorker<
     door: D,
     viewer: Viewer<P, S>,
     clerk: C,
-    links: u32,
+    links: u64,
     of: PhantomData<J>,
 }
 
@@ -72,7 +72,7 @@ impl<'r, D: Door, P: Pages + Drop, S: Notice<P>, C: Clerk<P, S, J>, J: Named, R:
         door: D,
         viewer: Viewer<P, S>,
         clerk: C,
-        links: u32,
+        links: u64,
     ) -> PageWorker<'r, D, P, S, C, J, R>
         requires { viewer.book ≡ J.desk }
         ensures { result ≡ record { door = door; viewer = viewer; clerk = clerk; links = links } }
@@ -95,10 +95,11 @@ impl<'r, D: Door, P: Pages + Drop, S: Notice<P>, C: Clerk<P, S, J>, J: Named, R:
         ensures { ServesDoor (AnswersBySet P.execution P.made_of P.is_execution P.is_sound)
             D.told D.faults D.Link.left D.Link.taken D.Link.faults C.given self.old self.new result }
     {
+        let mut room = LinkRoom::new(self.alloc);
         let mut end = WorkEnd::new();
-        while end.links < u64::from(self.links) {
+        while end.links < self.links {
             let (door, viewer, clerk) = (&mut self.door, &mut self.viewer, &mut self.clerk);
-            match serve_next(self.alloc, self.rt, door, viewer, clerk) {
+            match serve_next(self.alloc, self.rt, door, viewer, clerk, &mut room) {
                 Ok(Some(link)) => end.add(link),
                 Ok(None) => return end,
                 Err(Failed) => return end.failed(),
@@ -116,6 +117,7 @@ fn serve_next<D: Door, P: Pages + Drop, S: Notice<P>, C: Clerk<P, S, J>, J: Name
     door: &mut D,
     viewer: &mut Viewer<P, S>,
     clerk: &mut C,
+    room: &mut LinkRoom,
 ) -> Result<Option<LinkEnd>, Failed>
     requires { viewer.old.book ≡ J.desk }
     ensures next { ServesNext (AnswersBySet P.execution P.made_of P.is_execution P.is_sound)
@@ -124,7 +126,7 @@ fn serve_next<D: Door, P: Pages + Drop, S: Notice<P>, C: Clerk<P, S, J>, J: Name
     ensures desk { viewer.new.book ≡ viewer.old.book }
 {
     match door.accept() {
-        Ok(Came::Link(link)) => Ok(Some(serve(alloc, rt, door, viewer, clerk, link))),
+        Ok(Came::Link(link)) => Ok(Some(serve(alloc, rt, door, viewer, clerk, room, link))),
         Ok(Came::Closed) => Ok(None),
         Err(Failed) => Err(Failed),
     }
@@ -137,6 +139,7 @@ fn serve<D: Door, P: Pages + Drop, S: Notice<P>, C: Clerk<P, S, J>, J: Named, R:
     door: &mut D,
     viewer: &mut Viewer<P, S>,
     clerk: &mut C,
+    room: &mut LinkRoom,
     mut link: D::Link,
 ) -> LinkEnd
     requires desk { viewer.old.book ≡ J.desk }
@@ -146,7 +149,7 @@ fn serve<D: Door, P: Pages + Drop, S: Notice<P>, C: Clerk<P, S, J>, J: Named, R:
         (carried viewer.old (C.given clerk.old)) (carried viewer.new (C.given clerk.new)) link result }
     ensures desk { viewer.new.book ≡ viewer.old.book }
 {
-    let end = serve_link(alloc, rt, viewer, clerk, &mut link);
+    let end = serve_link(alloc, rt, viewer, clerk, &mut link, room);
     door.done(link);
     end
 }

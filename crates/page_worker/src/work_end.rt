@@ -8,8 +8,8 @@ use page_server::LinkEnd;
 pub struct WorkEnd {
     /// How many links were served.
     pub links: u64,
-    /// How many requests were answered on them.
-    pub requests: u64,
+    /// How many requests were answered on them. Those of the most links are too many for a `u64`.
+    pub requests: u128,
     /// The number in the last reply on them, or 0 without one.
     pub last: u64,
     /// Whether the work ended because the door failed, which the door has counted.
@@ -32,11 +32,11 @@ impl WorkEnd {
     /// Adds a link that was served.
     pub(crate) fn add(&mut self, link: LinkEnd)
         requires links { self.old.links + 1 < 2 ^ 64 }
-        requires requests { self.old.requests + link.requests < 2 ^ 64 }
+        requires requests { self.old.requests + link.requests < 2 ^ 128 }
         ensures { self.new ≡ work_with self.old link }
     {
         self.links += 1;
-        self.requests += u64::from(link.requests);
+        self.requests += u128::from(link.requests);
         if link.requests != 0 {
             self.last = link.last;
         }

@@ -5,7 +5,7 @@ use Rattle.page_server.proofs.serve.serve_all.Goals as goal
 pub loop-number-init : goal.loop-number-init
 loop-number-init g c = record {
   below = omega arith;
-  served = served_none _ _ _ c.new-buffer.ensures;
+  served = served_none _ _ _ c.begin.ensures;
   desk = refl;
   later = omega arith;
 }

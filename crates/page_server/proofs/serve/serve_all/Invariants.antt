@@ -11,7 +11,7 @@ invariant-loop-number g l = record {
   served : HasServed (AnswersBySet g.P.Pages.execution g.P.Pages.made_of g.P.Pages.is_execution g.P.Pages.is_sound)
       (session (g.L.Link.left l.fn.link) (g.L.Link.taken l.fn.link) (g.C.Clerk.given l.fn.clerk) l.fn.viewer)
       (session (g.L.Link.left l.link) (g.L.Link.taken l.link) (g.C.Clerk.given l.clerk) l.viewer)
-      (held_in l.buffer) l.requests l.last true;
+      (held_in l.room.buffer) l.requests l.last true;
   desk : l.viewer.book ≡ l.fn.viewer.book;
   later : g.L.Link.faults l.fn.link ≤ g.L.Link.faults l.link;
 }
