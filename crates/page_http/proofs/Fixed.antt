@@ -1,7 +1,7 @@
--- The bytes of the reply 503.
+-- The bytes of the reply 503, and the line of the status 200.
 use Rattle.std.proofs.Common.{ℕ, ◌≡◌, true, List, ◌++◌, codes, refl, false, append_assoc, ap, sym, ◌∙◌}
 use Rattle.std.specs.Fmt.{decimal, digits}
-use Rattle.page_http.specs.Replies.{reply_text, unavailable, phrase, crlf, content_type, field_line, connection}
+use Rattle.page_http.specs.Replies.{status_line, reply_text, unavailable, phrase, crlf, content_type, field_line, connection}
 
 abbrev pub before_number : List ℕ
 before_number = codes "HTTP/1.1 503 Service Unavailable\r\nContent-Type: text/plain; charset=utf-8\r\nContent-Length: 7\r\nSet-Number: "
@@ -12,6 +12,15 @@ after_number = codes "\r\nConnection: close\r\n\r\nmemory\n"
 status : decimal 503 ≡ codes "503"
 unfolding digits
 status = refl
+
+status_200 : decimal 200 ≡ codes "200"
+unfolding digits
+status_200 = refl
+
+-- the line of the status that most replies have
+pub line_of_200 : codes "HTTP/1.1 200 OK\r\n" ≡ status_line 200
+line_of_200 =
+    ap (λ (z : List ℕ). codes "HTTP/1.1 " ++ (z ++ (codes " " ++ (phrase 200 ++ crlf)))) (sym status_200)
 
 body : decimal 7 ≡ codes "7"
 unfolding digits

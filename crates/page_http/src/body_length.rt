@@ -1,12 +1,10 @@
-ghost use Rattle.std.specs.Prelude.{◌≡◌, ◌≤◌, [], All, codes, length, map};
+ghost use Rattle.std.specs.Prelude.{◌≡◌, [], codes};
 ghost use Rattle.std.specs.Str.{bytes_eq};
-ghost use Rattle.httparse.specs.Spans.{header_bytes, IsHeaderWithin};
-ghost use Rattle.page_http.specs.Bodies.{IsKnownRefusal, length_by_values, length_said};
+ghost use Rattle.page_http.specs.Bodies.{IsKnownRefusal, length_by_values, length_found};
 
-use crate::fields::{Found, find};
+use crate::fields::{Found, Known};
 use crate::number::{Number, read_number};
 use crate::read::MAX_BODY;
-use httparse::spans::HeaderSpan;
 
 /// What a head says of the length of the body.
 #[derive(Clone, Copy)]
@@ -17,18 +15,17 @@ pub enum BodyLength {
     Refused(u16),
 }
 
-/// What the method and the fields of a head of `len` bytes say of the length of its body.
-pub fn body_length(buf: &[u8], headers: &[HeaderSpan], len: usize, method: &[u8]) -> BodyLength
-    requires len { len ≤ length buf.now }
-    requires within { All (IsHeaderWithin len) headers.now }
-    ensures value { result ≡ length_said method.now (map (header_bytes buf.now) headers.now) }
+/// What the method and the fields of a head say of the length of its body.
+pub fn body_length(known: Known<'_>, method: &[u8]) -> BodyLength
+    ensures value { result ≡ length_found (bytes_eq method.now (codes "POST"))
+        known.entry.transfer_encoding known.entry.content_length }
     ensures status { IsKnownRefusal result }
 {
-    match find(buf, headers, len, b"transfer-encoding") {
+    match known.transfer_encoding {
         Found::Nothing => {}
         _ => return BodyLength::Refused(501),
     }
-    match find(buf, headers, len, b"content-length") {
+    match known.content_length {
         Found::Nothing => without_length(method),
         Found::Once(value) => match read_number(value, MAX_BODY as u64) {
             Number::Value(count) => BodyLength::Bytes(count),

@@ -1,21 +1,15 @@
-ghost use Rattle.std.specs.Prelude.{◌≡◌, ◌≤◌, All, codes, length, map};
-ghost use Rattle.httparse.specs.Spans.{header_bytes, IsHeaderWithin};
-ghost use Rattle.page_http.specs.Fields.{values};
-ghost use Rattle.page_http.specs.Contents.{at_least_said, kind_by_type, kind_said};
+ghost use Rattle.std.specs.Prelude.{◌≡◌};
+ghost use Rattle.page_http.specs.Contents.{kind_by_type, kind_found, least_found};
 
-use crate::fields::{Found, begins_with, find};
+use crate::fields::{Found, begins_with};
 use crate::number::{Number, read_number};
 use crate::request::{AtLeast, BodyKind};
-use httparse::spans::HeaderSpan;
 
-/// The least number of a set that the fields of a head of `len` bytes ask for.
-pub fn at_least(buf: &[u8], headers: &[HeaderSpan], len: usize) -> AtLeast
-    requires len { len ≤ length buf.now }
-    requires within { All (IsHeaderWithin len) headers.now }
-    ensures { result ≡ at_least_said
-        (values (codes "set-at-least") (map (header_bytes buf.now) headers.now)) }
+/// The least number of a set that the fields `Set-At-Least` ask for.
+pub fn at_least(found: Found<'_>) -> AtLeast
+    ensures { result ≡ least_found found.entry }
 {
-    match find(buf, headers, len, b"set-at-least") {
+    match found {
         Found::Nothing => AtLeast::Absent,
         Found::Once(value) => match read_number(value, u64::MAX) {
             Number::Value(number) => AtLeast::Number(number),
@@ -25,14 +19,11 @@ pub fn at_least(buf: &[u8], headers: &[HeaderSpan], len: usize) -> AtLeast
     }
 }
 
-/// How the body is to be read, by the fields of a head of `len` bytes.
-pub fn body_kind(buf: &[u8], headers: &[HeaderSpan], len: usize) -> BodyKind
-    requires len { len ≤ length buf.now }
-    requires within { All (IsHeaderWithin len) headers.now }
-    ensures { result ≡ kind_said
-        (values (codes "content-type") (map (header_bytes buf.now) headers.now)) }
+/// How the body is to be read, by the fields `Content-Type`.
+pub fn body_kind(found: Found<'_>) -> BodyKind
+    ensures { result ≡ kind_found found.entry }
 {
-    match find(buf, headers, len, b"content-type") {
+    match found {
         Found::Once(value) => kind_of_type(value),
         _ => BodyKind::Other,
     }

@@ -1,6 +1,6 @@
-ghost use Rattle.std.specs.Prelude.{◌≡◌, ◌≤◌, All, length, map};
+ghost use Rattle.std.specs.Prelude.{◌≡◌, ◌≤◌, ◌∷◌, All, List, ℕ, length, map, if◌then◌else◌};
 ghost use Rattle.httparse.specs.Spans.{header_bytes, IsHeaderWithin};
-ghost use Rattle.page_http.specs.Fields.{begins_with_name, same_name, values, SaysValues};
+ghost use Rattle.page_http.specs.Fields.{begins_with_name, same_name, KnownSoFar, SaysKnown, SoFar};
 
 use httparse::spans::HeaderSpan;
 
@@ -33,20 +33,60 @@ pub fn begins_with(text: &[u8], name: &[u8]) -> bool
     is_same_name(front, name)
 }
 
-/// What the fields of a name say in a head of `len` bytes.
-pub fn find<'b>(buf: &'b [u8], headers: &[HeaderSpan], len: usize, name: &[u8]) -> Found<'b>
+/// What the fields of a head say, by the names that a request is read by.
+#[derive(Clone, Copy)]
+pub struct Known<'b> {
+    pub transfer_encoding: Found<'b>,
+    pub content_length: Found<'b>,
+    pub content_type: Found<'b>,
+    pub set_at_least: Found<'b>,
+}
+
+/// What the fields of a head of `len` bytes say, in one pass over them.
+pub fn find_known<'b>(buf: &'b [u8], headers: &[HeaderSpan], len: usize) -> Known<'b>
     requires len { len ≤ length buf.now }
     requires within { All (IsHeaderWithin len) headers.now }
-    ensures { SaysValues (values name.now (map (header_bytes buf.now) headers.now)) result }
+    ensures { SaysKnown (map (header_bytes buf.now) headers.now) result }
 {
-    let mut found = Found::Nothing;
+    let mut known = Known {
+        transfer_encoding: Found::Nothing,
+        content_length: Found::Nothing,
+        content_type: Found::Nothing,
+        set_at_least: Found::Nothing,
+    };
     for header in headers {
-        if is_same_name(header.name.of(buf), name) {
-            match found {
-                Found::Nothing => found = Found::Once(header.value.of(buf)),
-                _ => return Found::Often,
-            }
-        }
+        known = known_after(known, header.name.of(buf), header.value.of(buf));
     }
-    found
+    known
+}
+
+// What is known after one more field.
+#[inline(always)]
+fn known_after<'b>(known: Known<'b>, name: &[u8], value: &'b [u8]) -> Known<'b>
+    ensures { (all rest : List (List ℕ × List ℕ))
+        → KnownSoFar all ((name.now, value.now) ∷ rest) known.entry → KnownSoFar all rest result }
+{
+    Known {
+        transfer_encoding: found_after(known.transfer_encoding, name, value, b"transfer-encoding"),
+        content_length: found_after(known.content_length, name, value, b"content-length"),
+        content_type: found_after(known.content_type, name, value, b"content-type"),
+        set_at_least: found_after(known.set_at_least, name, value, b"set-at-least"),
+    }
+}
+
+// What is found of a name after one more field.
+#[inline(always)]
+fn found_after<'b>(found: Found<'b>, name: &[u8], value: &'b [u8], wanted: &[u8]) -> Found<'b>
+    ensures { (all rest : List (List ℕ))
+        → SoFar all (if same_name name.now wanted.now then value.now ∷ rest else rest) found.entry
+        → SoFar all rest result }
+{
+    if !is_same_name(name, wanted) {
+        return found;
+    }
+    match found {
+        Found::Nothing => Found::Once(value),
+        Found::Once(_) => Found::Often,
+        Found::Often => Found::Often,
+    }
 }

@@ -96,6 +96,6 @@ fn number_body(alloc: Global, number: u64) -> Result<Bytes, Memory>
 {
     let mut body = Vec::with_capacity(alloc, NUMBER_ROOM)?;
     push_number(&mut body, b"set ", number)?;
-    body.extend_from_slice(b"\n")?;
+    body.push(b'\n')?;
     Ok(Bytes::from(body))
 }

@@ -1,11 +1,15 @@
 ghost use Rattle.std.specs.Prelude.{◌≡◌, ◌≤◌, All, length, map, take, IfOk};
+ghost use Rattle.std.specs.List.{after_first, before_first};
 ghost use Rattle.std.specs.Str.{IsUtf8};
 ghost use Rattle.httparse.specs.Spans.{header_bytes, IsHeaderWithin, IsRequestOf, IsRequestWithin};
+ghost use Rattle.page_http.specs.Fields.{SaysKnown};
 ghost use Rattle.page_http.specs.Requests.{HasReadStatus, RequestAnswers, SaysRequest, front};
+ghost use Rattle.page_http.specs.Requests.{is_question};
 
 use crate::body_length::{BodyLength, body_length};
 use crate::connection::closes;
 use crate::content::{at_least, body_kind};
+use crate::fields::{Known, find_known};
 use crate::request::Request;
 use httparse::spans::{EMPTY_HEADER_SPAN, HeaderSpan, RequestSpans, parse_request};
 use httparse::{Error, Status};
@@ -86,7 +90,8 @@ fn read_body(
     let (fields, _) = headers.split_at(head.headers);
     let method = text_of(head.method.of(buf));
     let target = text_of(head.path.of(buf));
-    let count = match body_length(buf, fields, head.len, method.as_bytes()) {
+    let known = find_known(buf, fields, head.len);
+    let count = match body_length(known, method.as_bytes()) {
         BodyLength::Refused(status) => return Ok(ReadOne::Refused(status)),
         BodyLength::Bytes(count) => count as usize,
     };
@@ -99,6 +104,7 @@ fn read_body(
         alloc,
         buf,
         fields,
+        known,
         head.len,
         head.version,
         method,
@@ -110,11 +116,14 @@ fn read_body(
     }
 }
 
-// The text of bytes that are one.
+// The text of bytes that are one. Those of the method that most requests have are not tested again.
 fn text_of(bytes: &[u8]) -> &str
     requires { IsUtf8 bytes.now }
     ensures { result.now ≡ bytes.now }
 {
+    if bytes == b"GET".as_slice() {
+        return "GET";
+    }
     match std::str::from_utf8(bytes) {
         Ok(text) => text,
         Err(_) => unreachable!(),
@@ -126,6 +135,7 @@ fn make_request(
     alloc: Global,
     buf: &[u8],
     headers: &[HeaderSpan],
+    known: Known<'_>,
     len: usize,
     minor: u8,
     method: &str,
@@ -134,18 +144,27 @@ fn make_request(
 ) -> Result<Request, Memory>
     requires len { len ≤ length buf.now }
     requires within { All (IsHeaderWithin len) headers.now }
+    requires known { SaysKnown (map (header_bytes buf.now) headers.now) known }
     ensures says { IfOk result (SaysRequest method.now target.now minor
         (map (header_bytes buf.now) headers.now)) }
     ensures body { IfOk result (λ request. request.body ≡ body.now) }
 {
-    let (path, query) = target.split_once('?').unwrap_or((target, ""));
+    let (path, query) = split_target(target);
     Ok(Request {
         method: Text::copy_of(alloc, method)?,
         path: Text::copy_of(alloc, path)?,
         query: Bytes::copy_of(alloc, query.as_bytes())?,
-        at_least: at_least(buf, headers, len),
-        body_kind: body_kind(buf, headers, len),
+        at_least: at_least(known.set_at_least),
+        body_kind: body_kind(known.content_type),
         body: Bytes::copy_of(alloc, body)?,
         close: closes(buf, headers, len, minor, method.as_bytes()),
     })
+}
+
+// A target before its first question mark, and what follows that.
+fn split_target(target: &str) -> (&str, &str)
+    ensures path { result.0.now ≡ before_first is_question target.now }
+    ensures query { result.1.now ≡ after_first is_question target.now }
+{
+    target.split_once('?').unwrap_or((target, ""))
 }

@@ -89,12 +89,23 @@ fn push_status(out: &mut Vec<u8>, status: u16) -> Result<(), Memory>
     requires { IsReplyStatus status }
     ensures { OnOk result (out.new.items ≡ out.old.items ++ status_line status) }
 {
+    if status == 200 {
+        return push_status_200(out);
+    }
     let mut digits = Buffer::new();
     out.extend_from_slice(b"HTTP/1.1 ")?;
     out.extend_from_slice(digits.format(status).as_bytes())?;
     out.extend_from_slice(b" ")?;
     out.extend_from_slice(phrase(status).as_bytes())?;
     out.extend_from_slice(b"\r\n")?;
+    Ok(())
+}
+
+// Appends the line of the status that most replies have, in one piece.
+fn push_status_200(out: &mut Vec<u8>) -> Result<(), Memory>
+    ensures { OnOk result (out.new.items ≡ out.old.items ++ status_line 200) }
+{
+    out.extend_from_slice(b"HTTP/1.1 200 OK\r\n")?;
     Ok(())
 }
 

@@ -2,6 +2,7 @@ use Rattle.std.proofs.Common.{arith, inr, sym, ap, ◌∙◌, ◌≡◌, ℕ, Li
 use Rattle.page_http.specs.declared.body_length.BodyLength.TheVariants as body
 use Rattle.page_http.specs.Requests.{by_length, body_length_of}
 use Rattle.page_http.proofs.Heads.{begins_of, length_is, len_fits, token_text, says_of}
+use Rattle.page_http.proofs.Known.{length_of}
 use Rattle.page_http.proofs.read.read_body.Goals as goal
 
 pub text_of-method-requires : goal.text_of-method-requires
@@ -14,7 +15,7 @@ returns-in-Refused-clause-answers c =
     let h = c.requires.head.0 in
     let at = c.requires.head.1 in
     by_length h c.in-Refused.status (begins_of _ _ _ _ h c.requires.front c.requires.room at)
-    (sym (length_is _ _ _ _ h _ at (c.as_bytes.ensures.value ∙ c.text_of-method.ensures ∙ c.of.ensures) c.split_at.ensures.front) ∙ sym c.body_length.ensures.value ∙ c.in-Refused.is)
+    (sym (length_is _ _ _ _ h _ at (c.as_bytes.ensures.value ∙ c.text_of-method.ensures ∙ c.of.ensures) c.split_at.ensures.front) ∙ sym (length_of c.as_bytes.result.now _ _ c.find_known-known.ensures) ∙ sym c.body_length.ensures.value ∙ c.in-Refused.is)
 
 pub split_at-requires-2 : goal.split_at-requires-2
 split_at-requires-2 c = len_fits _ _ _ c.requires.front c.requires.within.section.len_fits
@@ -28,7 +29,7 @@ returns-then-rest-count-clause-answers c =
       c.in-Bytes.count,
       record {
         head = begins_of _ _ _ _ h c.requires.front c.requires.room at;
-        length_is = sym (length_is _ _ _ _ h _ at (c.as_bytes.ensures.value ∙ c.text_of-method.ensures ∙ c.of.ensures) c.split_at.ensures.front) ∙ sym c.body_length.ensures.value ∙ c.in-Bytes.is;
+        length_is = sym (length_is _ _ _ _ h _ at (c.as_bytes.ensures.value ∙ c.text_of-method.ensures ∙ c.of.ensures) c.split_at.ensures.front) ∙ sym (length_of c.as_bytes.result.now _ _ c.find_known-known.ensures) ∙ sym c.body_length.ensures.value ∙ c.in-Bytes.is;
         less = omega (arith, at.len, c.split_at-2.ensures.back_len, c.if-rest-count.true);
       },
     )
@@ -40,7 +41,7 @@ returns-in-Ok-clause-answers c =
     let r = c.in-Ok.request in
     let count : length r.body ≡ c.in-Bytes.count = omega (arith, ap length c.in-Ok.ensures.body, c.split_at-3.ensures.front_len) in
     let said : body_length_of h ≡ body.Bytes c.in-Bytes.count =
-    sym (length_is _ _ _ _ h _ at (c.as_bytes.ensures.value ∙ c.text_of-method.ensures ∙ c.of.ensures) c.split_at.ensures.front) ∙ sym c.body_length.ensures.value ∙ c.in-Bytes.is in (
+    sym (length_is _ _ _ _ h _ at (c.as_bytes.ensures.value ∙ c.text_of-method.ensures ∙ c.of.ensures) c.split_at.ensures.front) ∙ sym (length_of c.as_bytes.result.now _ _ c.find_known-known.ensures) ∙ sym c.body_length.ensures.value ∙ c.in-Bytes.is in (
       h,
       record {
         head = begins_of _ _ _ _ h c.requires.front c.requires.room at;
