@@ -12,4 +12,4 @@ pub mod Pairs
 pub mod OneReply
 pub mod Responses
 pub mod AskExamples
-pub mod Known
+pub mod KnownFields

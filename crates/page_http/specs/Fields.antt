@@ -5,7 +5,7 @@ use Rattle.std.specs.List.{slice_split}
 use Rattle.std.specs.Str.{bytes_eq}
 use Rattle.page_http.specs.declared.fields.Found.{Found}
 use Rattle.page_http.specs.declared.fields.Found.TheVariants as found
-use Rattle.page_http.specs.declared.fields.Known.{Known}
+use Rattle.page_http.specs.declared.fields.KnownFields.{KnownFields}
 
 -- names are the same in any case (RFC 9110, section 5.1)
 abbrev pub same_name : List ℕ → List ℕ → Bool
@@ -42,14 +42,14 @@ SoFar all left (found.Once v) = all ≡ v.now ∷ left
 SoFar all left found.Often = 2 ≤ length all
 
 -- the fields of a head, by the names that a request is read by
-pub record SaysKnown (fields : List (List ℕ × List ℕ)) (k : Known) : Type 0 where
+pub record SaysKnown (fields : List (List ℕ × List ℕ)) (k : KnownFields) : Type 0 where
   pub transfer_encoding : SaysValues (values (codes "transfer-encoding") fields) k.transfer_encoding
   pub content_length : SaysValues (values (codes "content-length") fields) k.content_length
   pub content_type : SaysValues (values (codes "content-type") fields) k.content_type
   pub set_at_least : SaysValues (values (codes "set-at-least") fields) k.set_at_least
 
 -- of all fields: those that are left, and what was found before them
-pub record KnownSoFar (all left : List (List ℕ × List ℕ)) (k : Known) : Type 0 where
+pub record KnownSoFar (all left : List (List ℕ × List ℕ)) (k : KnownFields) : Type 0 where
   pub transfer_encoding : SoFar (values (codes "transfer-encoding") all) (values (codes "transfer-encoding") left) k.transfer_encoding
   pub content_length : SoFar (values (codes "content-length") all) (values (codes "content-length") left) k.content_length
   pub content_type : SoFar (values (codes "content-type") all) (values (codes "content-type") left) k.content_type

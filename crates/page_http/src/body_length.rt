@@ -2,7 +2,7 @@ ghost use Rattle.std.specs.Prelude.{◌≡◌, [], codes};
 ghost use Rattle.std.specs.Str.{bytes_eq};
 ghost use Rattle.page_http.specs.Bodies.{IsKnownRefusal, length_by_values, length_found};
 
-use crate::fields::{Found, Known};
+use crate::fields::{Found, KnownFields};
 use crate::number::{Number, read_number};
 use crate::read::MAX_BODY;
 
@@ -16,7 +16,7 @@ pub enum BodyLength {
 }
 
 /// What the method and the fields of a head say of the length of its body.
-pub fn body_length(known: Known<'_>, method: &[u8]) -> BodyLength
+pub fn body_length(known: KnownFields<'_>, method: &[u8]) -> BodyLength
     ensures value { result ≡ length_found (bytes_eq method.now (codes "POST"))
         known.entry.transfer_encoding known.entry.content_length }
     ensures status { IsKnownRefusal result }

@@ -35,7 +35,7 @@ pub fn begins_with(text: &[u8], name: &[u8]) -> bool
 
 /// What the fields of a head say, by the names that a request is read by.
 #[derive(Clone, Copy)]
-pub struct Known<'b> {
+pub struct KnownFields<'b> {
     pub transfer_encoding: Found<'b>,
     pub content_length: Found<'b>,
     pub content_type: Found<'b>,
@@ -43,12 +43,12 @@ pub struct Known<'b> {
 }
 
 /// What the fields of a head of `len` bytes say, in one pass over them.
-pub fn find_known<'b>(buf: &'b [u8], headers: &[HeaderSpan], len: usize) -> Known<'b>
+pub fn find_known<'b>(buf: &'b [u8], headers: &[HeaderSpan], len: usize) -> KnownFields<'b>
     requires len { len ≤ length buf.now }
     requires within { All (IsHeaderWithin len) headers.now }
     ensures { SaysKnown (map (header_bytes buf.now) headers.now) result }
 {
-    let mut known = Known {
+    let mut known = KnownFields {
         transfer_encoding: Found::Nothing,
         content_length: Found::Nothing,
         content_type: Found::Nothing,
@@ -62,11 +62,11 @@ pub fn find_known<'b>(buf: &'b [u8], headers: &[HeaderSpan], len: usize) -> Know
 
 // What is known after one more field.
 #[inline(always)]
-fn known_after<'b>(known: Known<'b>, name: &[u8], value: &'b [u8]) -> Known<'b>
+fn known_after<'b>(known: KnownFields<'b>, name: &[u8], value: &'b [u8]) -> KnownFields<'b>
     ensures { (all rest : List (List ℕ × List ℕ))
         → KnownSoFar all ((name.now, value.now) ∷ rest) known.entry → KnownSoFar all rest result }
 {
-    Known {
+    KnownFields {
         transfer_encoding: found_after(known.transfer_encoding, name, value, b"transfer-encoding"),
         content_length: found_after(known.content_length, name, value, b"content-length"),
         content_type: found_after(known.content_type, name, value, b"content-type"),

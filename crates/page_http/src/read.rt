@@ -9,7 +9,7 @@ ghost use Rattle.page_http.specs.Requests.{is_question};
 use crate::body_length::{BodyLength, body_length};
 use crate::connection::closes;
 use crate::content::{at_least, body_kind};
-use crate::fields::{Known, find_known};
+use crate::fields::{KnownFields, find_known};
 use crate::request::Request;
 use httparse::spans::{EMPTY_HEADER_SPAN, HeaderSpan, RequestSpans, parse_request};
 use httparse::{Error, Status};
@@ -135,7 +135,7 @@ fn make_request(
     alloc: Global,
     buf: &[u8],
     headers: &[HeaderSpan],
-    known: Known<'_>,
+    known: KnownFields<'_>,
     len: usize,
     minor: u8,
     method: &str,

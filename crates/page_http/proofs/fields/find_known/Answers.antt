@@ -1,7 +1,7 @@
 use Rattle.std.proofs.Common.{arith, ◌+◌, ℕ, List, map, drop, subst}
 use Rattle.httparse.specs.Spans.{header_bytes}
 use Rattle.page_http.specs.Fields.{KnownSoFar}
-use Rattle.page_http.proofs.Known.{next_field}
+use Rattle.page_http.proofs.KnownFields.{next_field}
 use Rattle.page_http.proofs.fields.find_known.Goals as goal
 
 pub loop-header-preserved : goal.loop-header-preserved

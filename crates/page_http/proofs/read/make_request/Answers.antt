@@ -1,5 +1,5 @@
 use Rattle.std.proofs.Common.{rules, ◌∙◌}
-use Rattle.page_http.proofs.Known.{least_of, kind_of}
+use Rattle.page_http.proofs.KnownFields.{least_of, kind_of}
 use Rattle.page_http.proofs.read.make_request.Goals as goal
 
 pub returns-clause-says : goal.returns-clause-says

@@ -2,7 +2,7 @@ use Rattle.std.proofs.Common.{arith, inr, sym, ap, ◌∙◌, ◌≡◌, ℕ, Li
 use Rattle.page_http.specs.declared.body_length.BodyLength.TheVariants as body
 use Rattle.page_http.specs.Requests.{by_length, body_length_of}
 use Rattle.page_http.proofs.Heads.{begins_of, length_is, len_fits, token_text, says_of}
-use Rattle.page_http.proofs.Known.{length_of}
+use Rattle.page_http.proofs.KnownFields.{length_of}
 use Rattle.page_http.proofs.read.read_body.Goals as goal
 
 pub text_of-method-requires : goal.text_of-method-requires

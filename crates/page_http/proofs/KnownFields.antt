@@ -8,7 +8,7 @@ use Rattle.page_http.specs.Bodies.{length_by_found, length_by_values, length_fou
 use Rattle.page_http.specs.Contents.{at_least_said, kind_found, kind_said, least_found}
 use Rattle.page_http.specs.declared.fields.Found.{Found}
 use Rattle.page_http.specs.declared.fields.Found.TheVariants as found
-use Rattle.page_http.specs.declared.fields.Known.{Known}
+use Rattle.page_http.specs.declared.fields.KnownFields.{KnownFields}
 
 pub least_of : (vs : List (List ℕ)) (f : Found) → SaysValues vs f → least_found f ≡ at_least_said vs
 least_of vs found.Nothing h = sym (ap at_least_said h)
@@ -45,7 +45,7 @@ by_codings method fields [] e found.Often g h lengths = absurd (omega (arith, h)
 by_codings method fields (v ∷ more) e found.Often g h lengths = rw e refl
 
 -- what the fields say of the length of the body is what was found of them
-pub length_of : (method : List ℕ) (fields : List (List ℕ × List ℕ)) (k : Known) → SaysKnown fields k
+pub length_of : (method : List ℕ) (fields : List (List ℕ × List ℕ)) (k : KnownFields) → SaysKnown fields k
     → length_found (bytes_eq method (codes "POST")) k.transfer_encoding k.content_length ≡ length_said method fields
 length_of method fields k says =
     by_codings method fields _ refl k.transfer_encoding k.content_length says.transfer_encoding says.content_length
