@@ -12,8 +12,8 @@ use std::alloc::{AllocError, Global};
 const FIRST_ROOM: usize = 16_384;
 
 /// The bytes that were read from a link and are not answered yet, in one piece of memory that is
-/// kept from one request to the next, and from one link to the next. They are those from `start` to `end`: `held_in` of
-/// `specs/Held.antt`.
+/// kept from one request to the next, and from one link to the next. They are those from `start` to
+/// `end`: `held_in` of `specs/Held.antt`.
 #[derive(Drop)]
 pub(crate) struct Buffer {
     room: Vec<u8>,

@@ -14,6 +14,8 @@ mod send;
 mod serve;
 #[cfg(test)]
 mod tests;
+#[cfg(test)]
+mod threads;
 mod turn;
 
 pub use end::{LinkEnd, LinkWhy};

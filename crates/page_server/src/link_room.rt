@@ -8,8 +8,8 @@ use std::alloc::Global;
 /// What a worker keeps from one link to the next, so that it is not made anew for each: the routes,
 /// and the memory for the bytes that are read. No byte of a link is read as one of the next link.
 ///
-/// A long request leaves the memory large. A request that is read takes at most 16 KiB and a body of
-/// 1 MiB, so a room never has more than 4 MiB.
+/// A long request leaves the memory large: a request that is read takes at most 16 KiB and a body
+/// of 1 MiB, so a room never has more than 4 MiB.
 #[derive(Drop)]
 pub struct LinkRoom {
     // Nothing before the first link, and where memory ran out for them.
