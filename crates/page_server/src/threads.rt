@@ -32,9 +32,9 @@ struct NumberedSet {
 
 // No files are refused.
 #[derive(Debug, Drop)]
-struct NothingRefused;
+struct NumberedRefused;
 
-impl Shown for NothingRefused {
+impl Shown for NumberedRefused {
     ghost use Rattle.std.specs.Prelude.{[], false};
 
     ghost text = { λ _. [] };
@@ -51,7 +51,7 @@ impl Shown for NothingRefused {
 }
 
 impl Pages for NumberedSet {
-    type Refused = NothingRefused;
+    type Refused = NumberedRefused;
 
     ghost use Rattle.std.specs.Prelude.{◌≡◌, ⊤};
     ghost use Rattle.page_datum.specs.Execution.{done};
@@ -66,7 +66,7 @@ impl Pages for NumberedSet {
 
     ghost is_sound = { λ _ _ _ _. ⊤ };
 
-    fn make(alloc: Global, files: Files) -> Result<NumberedSet, NothingRefused> {
+    fn make(alloc: Global, files: Files) -> Result<NumberedSet, NumberedRefused> {
         Ok(NumberedSet {
             files,
             page: Bytes::new(alloc),
@@ -292,6 +292,7 @@ fn a_hundred_thousand_replies_are_by_published_sets(rt: HostRuntime) -> Result<(
     let mut desk: NumberedDesk = Desk::open(alloc, &rt, set_of(alloc, 1)?)?;
     let (Ok(first), Ok(second)) = (desk.seat(), desk.seat()) else {
         desk.close(&rt);
+        assert!(rt; false);
         return Ok(());
     };
     let served = serve_and_publish::<Brand, HostRuntime>(&rt, alloc, desk, first, second)?;
