@@ -4,9 +4,14 @@ pub mod Comings
 pub mod CommonMoves
 pub mod ConflictEdges
 pub mod ErrorFree
+pub mod LastPoints
 pub mod MeetingPoints
 pub mod NoErrors
 pub mod NoRefusal
+pub mod OneShown
+pub mod OtherCodes
+pub mod PathReplays
 pub mod RefusalEvidences
 pub mod TakenEdges
+pub mod TwoHave
 pub mod TwoPaths
