@@ -5,6 +5,7 @@ pub mod CommonMoves
 pub mod ConflictEdges
 pub mod ErrorFree
 pub mod LastPoints
+pub mod MeetingBack
 pub mod MeetingPoints
 pub mod NoErrors
 pub mod NoRefusal
@@ -13,5 +14,6 @@ pub mod OtherCodes
 pub mod PathReplays
 pub mod RefusalEvidences
 pub mod TakenEdges
+pub mod Turns
 pub mod TwoHave
 pub mod TwoPaths

@@ -5,18 +5,23 @@ use Rattle.std.proofs.lemmas.List.{reverse-reverse}
 use Rattle.std.proofs.lemmas.List.Elements.{All-cons, All-nil}
 use Rattle.std.specs.Prelude.{⊤}
 use Rattle.html_step.proofs.HoleOrder.{one-hole}
+use Rattle.html_step.proofs.MetApart.{met-apart}
 use Rattle.html_step.proofs.OneTexts.{one-text}
 use Rattle.html_step.specs.Holes.{Holed, after_hole}
 use Rattle.html_step.specs.Steps.{after_text}
 use Rattle.place_core.specs.page.Html.{start}
 use Rattle.place_core.specs.page.States.{LexState}
 use Rattle.place_core.specs.page.Tags.{ValueState}
+use Rattle.place_core.specs.place.ApartPlaces.{HasApart}
+use Rattle.place_core.specs.place.Membership.{IsIn}
 use Rattle.place_core.specs.place.Places.{IsValid}
 use Rattle.place_core.specs.place.StatePlaces.{placed}
 use Rattle.place_core.specs.declared.place.Place.{Place}
 use Rattle.place_core.specs.declared.place.Place.TheVariants as place
 use Rattle.place_core.specs.declared.step_err.StepErr.{StepErr}
+use Rattle.place_flow.proofs.Goings.{Goes}
 use Rattle.place_flow.proofs.NamedParts.{named, numbered, same_use}
+use Rattle.place_flow.proofs.PointStateLaws.{below_refl}
 use Rattle.place_flow.proofs.StepEdges.{is-call}
 use Rattle.place_flow.proofs.StepLaws.{step-keeps-valid}
 use Rattle.place_flow.specs.Covering.{edge_read, read_moves}
@@ -27,13 +32,14 @@ use Rattle.place_flow.specs.Transfer.{edge_step, enters_or_refused, may_use, rea
 use Rattle.place_flow.specs.declared.step.EdgeStep.{EdgeStep}
 use Rattle.place_flow.specs.declared.step.EdgeStep.TheVariants.{Enters, Reaches, Refused}
 use Rattle.place_laws.specs.Witness.{PathTo, path_state}
+use Rattle.place_show.proofs.OwnApart.{own-parts}
 use Rattle.place_show.specs.Showings.{IsNamedTemplate}
 use Rattle.place_trace.proofs.OwnPlaces.{reaches-own}
 use Rattle.place_trace.specs.Replays.{IsNameKnown, IsReplayOf, name_or_none, open_of, opens_of, point_node, told, told_edge, told_of}
 use Rattle.place_trace.specs.UnchosenWays.{replay_at}
 use Rattle.place_trace.specs.declared.chosen.Chosen.{Chosen}
 use Rattle.place_trace.specs.declared.replay.ReplayedCall.{ReplayedCall}
-use Rattle.tpl_paths.specs.Edges.{Edge, Point, calls, fills, from_of, passes, picks, writes}
+use Rattle.tpl_paths.specs.Edges.{Edge, Point, before, calls, fills, from_of, passes, picks, writes}
 use Rattle.tpl_paths.specs.Paths.{HasCall, IsPath, Move, Open, Standing, along, along_edge, at_root, back, left_calls, open_standing, reached}
 use Rattle.tpl_paths.specs.declared.choice.Way.{Way}
 use Rattle.tpl_tree.specs.Forests.{ForestData, HasAscendingNames, number_named, tree_name_at}
@@ -47,6 +53,7 @@ pub record HasOwn (s : LexState ValueState) : Type 0 where
   pub own : Place
   pub stands : placed s ≡ Some own
   pub valid : IsValid own
+  pub alone : HasApart own → ⊥
 
 -- where the step from a path's own place is refused, an error stands on the path
 pub parts : (b : Bool) (x : EdgeStep) → (if b then x else Refused) ≡ Refused → (b ≡ false) ⊎ (x ≡ Refused)
@@ -74,7 +81,7 @@ edge-refuses forest (picks from choice to) p s own h = cc
 edge-refuses forest (passes from to) p s own h = cc
 
 module _ (forest : ForestData) (up : HasAscendingNames forest) where
-  step-errs : (t : ℕ) (name : List ℕ) (e : Edge) (p : Place) (s : LexState ValueState) → tree_name_at forest t ≡ Some name → placed s ≡ Some p → step_of forest t e p ≡ Refused → Errs forest name e s
+  pub step-errs : (t : ℕ) (name : List ℕ) (e : Edge) (p : Place) (s : LexState ValueState) → tree_name_at forest t ≡ Some name → placed s ≡ Some p → step_of forest t e p ≡ Refused → Errs forest name e s
   step-errs t name e p s is own h = by-parts (parts (may_use p (use_at forest t (from_of e))) (edge_step forest e p) h)
     where
       by-parts : (may_use p (use_at forest t (from_of e)) ≡ false) ⊎ (edge_step forest e p ≡ Refused) → Errs forest name e s
@@ -141,10 +148,42 @@ module _ (forest : ForestData) (up : HasAscendingNames forest) where
   numbered-back [] a h i = i
   numbered-back (o ∷ os) a h i = record { number = h.0.0; number_is = h.0.1; calls = h.1 }
 
+  -- no path met itself apart
+  text-alone : (may : Bool) (bytes : List ℕ) (s : LexState ValueState) (o : HasOwn s) (q : Place) (x : Result Place (StepErr Place)) → after_text bytes o.own ≡ x
+      → (if may then reaches_or_refused (behind_text x) else Refused) ≡ Reaches q → HasApart q → ⊥
+  text-alone true bytes s o q (Ok p) is e h = elim (met-apart.from bytes o.own q o.valid (is ∙ ap Ok cc) h) [
+    | inl k ↦ o.alone k.0
+    | inr k ↦ (let i : IsIn o.own s = record { own = o.own; stands = o.stands; valid = o.valid; below = below_refl o.own } in
+    own-parts bytes s (k.4 s s i (record { own = o.own; stands = o.stands; has = k.2 }) i (record { own = o.own; stands = o.stands; has = k.3 })).0)
+  ]
+  text-alone true bytes s o q (Err p) is e h = cc
+  text-alone false bytes s o q x is e h = cc
+
+  hole-alone : (may : Bool) (s : LexState ValueState) (o : HasOwn s) (q : Place) (x : Holed) → after_hole o.own ≡ x → (if may then reaches_or_refused (behind_hole x) else Refused) ≡ Reaches q → HasApart q → ⊥
+  hole-alone true s o q (Ok p) is e h = (let same : p.0 ≡ q = cc in met-apart.holed o.own p.0 p.1 is (subst HasApart (sym same) h))
+  hole-alone true s o q (Err p) is e h = cc
+  hole-alone false s o q x is e h = cc
+
+  call-alone : (may : Bool) (o : Option ℕ) (p q : Place) → (if may then enters_or_refused o p else Refused) ≡ Reaches q → ⊥
+  call-alone true (Some c) p q e = cc
+  call-alone true None p q e = cc
+  call-alone false o p q e = cc
+
+  same-alone : (may : Bool) (p q : Place) → (if may then Reaches p else Refused) ≡ Reaches q → p ≡ q
+  same-alone true p q e = cc
+  same-alone false p q e = cc
+
+  step-alone : (t : ℕ) (e : Edge) (s : LexState ValueState) (o : HasOwn s) (q : Place) → step_of forest t e o.own ≡ Reaches q → HasApart q → ⊥
+  step-alone t (writes n bytes to) s o q step h = text-alone (may_use o.own (use_at forest t (before n))) bytes s o q (after_text bytes o.own) refl step h
+  step-alone t (fills n pipe to) s o q step h = hole-alone (may_use o.own (use_at forest t (before n))) s o q (after_hole o.own) refl step h
+  step-alone t (calls n name to) s o q step h = call-alone (may_use o.own (use_at forest t (before n))) (number_named name forest) o.own q step
+  step-alone t (picks from choice to) s o q step h = o.alone (subst HasApart (sym (same-alone (may_use o.own (use_at forest t from)) o.own q step)) h)
+  step-alone t (passes from to) s o q step h = o.alone (subst HasApart (sym (same-alone (may_use o.own (use_at forest t from)) o.own q step)) h)
+
   -- a path's own place behind an edge
-  own-step : (t : ℕ) (name : List ℕ) (e : Edge) (s : LexState ValueState) (o : HasOwn s) (r : EdgeStep) → tree_name_at forest t ≡ Some name → step_of forest t e o.own ≡ r → (Errs forest name e s → ⊥) → HasOwn (edge_read html_language e s)
+  pub own-step : (t : ℕ) (name : List ℕ) (e : Edge) (s : LexState ValueState) (o : HasOwn s) (r : EdgeStep) → tree_name_at forest t ≡ Some name → step_of forest t e o.own ≡ r → (Errs forest name e s → ⊥) → HasOwn (edge_read html_language e s)
   own-step t name e s o (Reaches q) is step clear =
-      record { own = q; stands = reaches-own forest t e o.own q s o.stands step; valid = subst IsValidStep step (step-keeps-valid forest t e o.own o.valid) }
+      record { own = q; stands = reaches-own forest t e o.own q s o.stands step; valid = subst IsValidStep step (step-keeps-valid forest t e o.own o.valid); alone = step-alone t e s o q step }
   own-step t name e s o (Enters c q) is step clear = (let k = is-call forest t e o.own c q step in subst (λ (d : Edge). HasOwn (edge_read html_language d s)) (sym k.is) o)
   own-step t name e s o Refused is step clear = absurd (clear (step-errs t name e o.own s is o.stands step))
 
@@ -162,6 +201,18 @@ module _ (forest : ForestData) (up : HasAscendingNames forest) where
       let w = walked (left_calls a.open_calls a) s ms (numbered-back a.open_calls a i.calls i) o p.1 c in
       record { tells = record { chosen = w.tells.chosen; tells = w.tells.tells; named = w.tells.named }; numbers = w.numbers; has_own = w.has_own }
 
+  -- where moves of a root lead, the template has a number and the path a place
+  pub record StandsThere (a : Standing) (s : LexState ValueState) : Type 0 where
+    pub number : ℕ
+    pub number_is : tree_name_at forest number ≡ Some a.template
+    pub has_own : HasOwn s
+
+  pub stands-there : (root : ℕ) (root_name : List ℕ) (a : Standing) (s : LexState ValueState) → tree_name_at forest root ≡ Some root_name → Goes forest (at_root forest root_name) start.at a s → StandsThere a s
+  stands-there root root_name a s root_is g =
+      let w = walked (at_root forest root_name) start.at g.moves (record { number = root; number_is = root_is; calls = tt }) (record { own = place.Text; stands = refl; valid = tt; alone = λ h. cc }) g.path g.clear in
+      let i = subst IsNumbered g.stands w.numbers in
+      record { number = i.number; number_is = i.number_is; has_own = subst HasOwn g.reads w.has_own }
+
   -- what a replay of the path has
   pub record Replayed (root : ℕ) (os : List Open) (t : ℕ) (k : Point) (p : PathTo forest root os t k) : Type 0 where
     pub calls : List ReplayedCall
@@ -175,7 +226,7 @@ module _ (forest : ForestData) (up : HasAscendingNames forest) where
 
   pub replayed : (root : ℕ) (os : List Open) (t : ℕ) (k : Point) (p : PathTo forest root os t k) → Replayed root os t k p
   replayed root os t k p =
-      let w = walked (at_root forest p.root_name) start.at p.moves (record { number = root; number_is = p.root_is; calls = tt }) (record { own = place.Text; stands = refl; valid = tt }) p.path p.clear in
+      let w = walked (at_root forest p.root_name) start.at p.moves (record { number = root; number_is = p.root_is; calls = tt }) (record { own = place.Text; stands = refl; valid = tt; alone = λ h. cc }) p.path p.clear in
       let numbers : AreNumbered os = subst (λ (a : Standing). AreNumbered a.open_calls) p.stands w.numbers.calls in
       record {
         calls = reverse (calls-by os numbers);

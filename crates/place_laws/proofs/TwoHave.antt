@@ -27,8 +27,8 @@ use Rattle.place_laws.proofs.LastPoints.{met-last, shown-in}
 use Rattle.place_laws.proofs.OneShown.{one-shown, seen-at, showing-of}
 use Rattle.place_laws.proofs.OtherCodes.{url-code}
 use Rattle.place_laws.proofs.PathReplays.{Replayed, replay-is, replayed, some-name}
-use Rattle.place_laws.specs.ShownErrors.{HasShowing, RefusalsAreShown}
-use Rattle.place_laws.specs.Witness.{ApartErr, PathTo, RefusalErr, TwoErr, path_state}
+use Rattle.place_laws.specs.ShownErrors.{HasShowing, JoinsAreShown, RefusalsAreShown}
+use Rattle.place_laws.specs.Witness.{ApartErr, MembersDoNotJoin, PathTo, RefusalErr, TwoErr, path_state}
 use Rattle.place_show.proofs.Makings.{shown-by}
 use Rattle.place_show.proofs.Orders.{not-both-greater}
 use Rattle.place_show.proofs.TwoShown.{two-shown}
@@ -43,8 +43,9 @@ use Rattle.place_trace.specs.declared.chosen.Chosen.{Chosen}
 use Rattle.place_trace.specs.declared.replay.PathReplay.{PathReplay}
 use Rattle.place_trace.specs.declared.replay.ReplayedCall.{ReplayedCall}
 use Rattle.tpl_paths.proofs.EdgeNodes.{hole_stands, text_stands}
-use Rattle.tpl_paths.specs.Edges.{Edge, Point, before, calls, fills, from_of, node_kind_at, passes, picks, writes}
+use Rattle.tpl_paths.specs.Edges.{Edge, Point, before, calls, fills, from_of, head, node_kind_at, passes, past_point, picks, writes}
 use Rattle.tpl_paths.specs.Paths.{Move, Open, at_root, reached}
+use Rattle.tpl_paths.specs.declared.point.Point.TheVariants as point
 use Rattle.tpl_tree.specs.Forests.{ForestData, HasAscendingNames, number_named, tree_name_at}
 use Rattle.tpl_tree.specs.Trees.{NodesData, head_kind, nodes_from}
 use Rattle.tpl_tree.specs.declared.node_kind.NodeKind.{NodeKind}
@@ -331,3 +332,21 @@ pub refusals-shown : RefusalsAreShown
 refusals-shown forest root os t n e up got (inl h) = one-shown forest root os t n e up got h
 refusals-shown forest root os t n e up got (inr (inl h)) = two-errs forest up root os t n e h.path h.other got h.errs
 refusals-shown forest root os t n e up got (inr (inr h)) = apart-errs forest up root os t n e got h
+
+-- places of two paths that do not join
+module _ (forest : ForestData) (up : HasAscendingNames forest) (root : ℕ) (os : List Open) (t : ℕ) where
+  joins-at : (c : Code) (n : ℕ) (k : Point) → is_end_code c ≡ false → JoinsAt c k n → MembersDoNotJoin forest root os t k → HasShowing forest root
+  joins-at c n k code_is there m =
+      let a = replayed forest up root os t k m.path in
+      let b = replayed forest up root os t k m.other in
+      let one : a.own ≡ m.own = one_value a.own m.own (sym a.stands ∙ m.stands) in
+      let other : b.own ≡ m.other_own = one_value b.own m.other_own (sym b.stands ∙ m.other_stands) in
+      join-has forest root a.calls t k a.own b.own a.chosen b.chosen (replay-is forest up root os t k m.path a a.calls a.opens) (replay-is forest up root os t k m.other b a.calls a.opens) a.named b.named
+      c n code_is there (ap₂ joined one other ∙ m.conflict)
+
+pub joins-shown : JoinsAreShown
+joins-shown forest root os t (point.Head n) up at m = joins-at forest up root os t code.RangeLoopReentry n (head n) refl (inl (refl, refl)) m
+joins-shown forest root os t (point.Past n) up at m = joins-at forest up root os t code.BranchEnd n (past_point n) refl (inr (refl, refl)) m
+joins-shown forest root os t (point.Before n) up at m = absurd at
+joins-shown forest root os t (point.Again n) up at m = absurd at
+joins-shown forest root os t point.Finish up at m = absurd at

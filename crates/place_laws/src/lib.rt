@@ -14,4 +14,4 @@ pub use path_laws::{
     edges_meet_at_controls, every_conflict_has_error, every_member_has_a_path,
     every_root_has_a_path,
 };
-pub use shown_laws::refusals_are_shown;
+pub use shown_laws::{every_conflict_is_shown, joins_are_shown, refusals_are_shown};
