@@ -1,5 +1,5 @@
 -- The last point at which two paths are apart in the beginning of a URL, in a text and along moves: there is one, or they are nowhere apart.
-use Rattle.std.proofs.Common.{◌≡◌, ℕ, zero, suc, ◌<◌, ◌≤◌, Bool, true, false, List, [], ◌∷◌, length, take, drop, Option, Some, None, refl, sym, ap, ◌∙◌, subst, ◌⊎◌, inl, inr, arith}
+use Rattle.std.proofs.Common.{◌≡◌, ℕ, zero, suc, ◌≤◌, Bool, true, false, List, [], ◌∷◌, length, take, drop, Option, Some, None, refl, sym, ap, ◌∙◌, subst, ◌⊎◌, inl, inr, arith}
 use Rattle.html_scan.specs.Scans.{At, Scan}
 use Rattle.html_step.proofs.OnePath.{ends-agree}
 use Rattle.html_step.proofs.OneTexts.{at-place}

@@ -1,17 +1,17 @@
 -- Two paths that stand at one point in places that do not join have a showing: they do not join where they came together before, or they are
 -- refused together behind that point.
-use Rattle.std.proofs.Common.{◌≡◌, ℕ, zero, suc, ◌<◌, Bool, true, false, List, [], ◌∷◌, ◌++◌, append-nil, Option, Some, None, refl, sym, ap, ap₂, ◌∙◌, subst, ◌⊎◌, inl, inr}
+use Rattle.std.proofs.Common.{◌≡◌, ℕ, zero, suc, List, [], ◌∷◌, append-nil, Option, Some, None, refl, sym, ap, ap₂, ◌∙◌, subst, ◌⊎◌, inl, inr}
 use Rattle.std.specs.Prelude.{Contains, slice_get, ⊤}
 use Rattle.html_step.proofs.MetApart.{met-apart}
 use Rattle.place_core.proofs.JoinMembers.{the_join_has}
 use Rattle.place_core.proofs.JoinValid.{the_join_valid}
-use Rattle.place_core.proofs.Joins.{places_partial, the_join_above, the_join_least}
+use Rattle.place_core.proofs.Joins.{the_join_above, the_join_least}
 use Rattle.place_core.proofs.Semilattices.{none_some, one_value}
 use Rattle.place_core.specs.page.Html.{start}
 use Rattle.place_core.specs.page.States.{LexState}
 use Rattle.place_core.specs.page.Tags.{ValueState}
-use Rattle.place_core.specs.place.ApartPlaces.{ArePlacesApart, HasApart, side}
-use Rattle.place_core.specs.place.Membership.{Bears, IsIn}
+use Rattle.place_core.specs.place.ApartPlaces.{ArePlacesApart, HasApart}
+use Rattle.place_core.specs.place.Membership.{IsIn}
 use Rattle.place_core.specs.place.Places.{Below, Has, IsValid, joined}
 use Rattle.place_core.specs.place.StatePlaces.{placed}
 use Rattle.place_core.specs.declared.member.Member.{Member}
@@ -32,25 +32,21 @@ use Rattle.place_flow.specs.declared.step.EdgeStep.{EdgeStep}
 use Rattle.place_flow.specs.declared.step.EdgeStep.TheVariants.{Enters, Reaches, Refused}
 use Rattle.place_infer.specs.BreaksInRanges.{HasBreaksInRanges}
 use Rattle.place_infer.specs.Inferring.{root_numbers}
-use Rattle.place_derive.specs.Derivations.{IsMadeDerivation}
-use Rattle.place_derive.specs.FirstConflicts.{IsFirstConflict}
-use Rattle.place_derive.specs.declared.conflict.FirstConflict.{FirstConflict}
-use Rattle.place_derive.specs.declared.derivation.Derivation.{Derivation}
 use Rattle.place_laws.specs.MeetingPoints.{IsMeetingPoint}
 use Rattle.place_laws.proofs.ConflictEdges.{every-conflict}
 use Rattle.place_laws.proofs.ErrorFree.{is-root, roots-stand}
 use Rattle.place_laws.proofs.MeetingPoints.{meet-at-controls, none-to-start}
-use Rattle.place_laws.proofs.PathReplays.{HasOwn, StandsThere, own-step, stands-there, step-errs}
+use Rattle.place_laws.proofs.PathReplays.{HasOwn, stands-there}
 use Rattle.place_laws.proofs.RefusalEvidences.{BearingApart, refused-stands}
 use Rattle.place_laws.proofs.Turns.{not-at-start, turns-on}
 use Rattle.place_laws.proofs.TwoHave.{joins-shown, refusals-shown}
-use Rattle.place_laws.specs.ShownErrors.{ConflictIsShown, EveryConflictIsShown, HasShowing, IsJoiningPoint}
-use Rattle.place_laws.specs.Witness.{Bearing, MembersDoNotJoin, PathTo, RefusalErr, path_state}
+use Rattle.place_laws.specs.ShownErrors.{EveryConflictIsShown, HasShowing, IsJoiningPoint}
+use Rattle.place_laws.specs.Witness.{Bearing, MembersDoNotJoin, PathTo, path_state}
 use Rattle.place_trace.proofs.OwnPlaces.{reaches-own}
 use Rattle.tpl_paths.specs.Edges.{Edge, Point, Within, again, before, calls, edges_in, edges_of, fills, finish_point, from_of, head, passes, picks, start_in, to_of, writes}
 use Rattle.tpl_paths.specs.Paths.{HasCall, IsMove, IsPath, Move, Open, Standing, after_moves, along, along_edge, at_root, back, left_calls, open_standing, reached}
 use Rattle.tpl_paths.specs.declared.point.Point.TheVariants as point
-use Rattle.tpl_tree.specs.Forests.{ForestData, HasAscendingNames, number_named, tree_name_at}
+use Rattle.tpl_tree.specs.Forests.{ForestData, HasAscendingNames, tree_name_at}
 use Rattle.tpl_tree.specs.Trees.{NodesData}
 
 abbrev State : Type 0
@@ -63,6 +59,12 @@ IsInner (fills n pipe to) = ⊤
 IsInner (calls n name to) = ⊥
 IsInner (picks from choice to) = ⊤
 IsInner (passes from to) = ⊤
+
+-- how the last move came to a point
+data Landing (forest : ForestData) (a b : Standing) (r s : State) : Type 0 where
+  by_edge : (e : Edge) → IsInner e → Within e (edges_in forest a.template) → to_of e ≡ a.at → b ≡ open_standing a.open_calls a.template (from_of e) → (Errs forest a.template e r → ⊥) → edge_read html_language e r ≡ s → Landing forest a b r s
+  by_call : (o : Open) (os : List Open) → a.open_calls ≡ o ∷ os → a.at ≡ start_in forest a.template → b ≡ open_standing os o.template (before o.node) → r ≡ s → Landing forest a b r s
+  by_return : (o : Open) (callee : List ℕ) → Within (calls o.node callee o.back) (edges_in forest a.template) → o.template ≡ a.template → o.back ≡ a.at → b ≡ open_standing (o ∷ a.open_calls) callee finish_point → r ≡ s → Landing forest a b r s
 
 module _ (forest : ForestData) (root_name : List ℕ) where
   abbrev here : Standing
@@ -115,17 +117,11 @@ module _ (forest : ForestData) (root_name : List ℕ) where
   called zero a s w = subst (λ (x : Standing). AreCalled x.template x.open_calls) (sym w.0) refl
   called (suc n) a s w = subst (λ (x : Standing). AreCalled x.template x.open_calls) w.leads (called-move w.from w.move w.moves (called n w.from w.state w.ways))
 
-  -- how the last move came to a point
-  data Landing (a b : Standing) (r s : State) : Type 0 where
-    by_edge : (e : Edge) → IsInner e → Within e (edges_in forest a.template) → to_of e ≡ a.at → b ≡ open_standing a.open_calls a.template (from_of e) → (Errs forest a.template e r → ⊥) → edge_read html_language e r ≡ s → Landing a b r s
-    by_call : (o : Open) (os : List Open) → a.open_calls ≡ o ∷ os → a.at ≡ start_in forest a.template → b ≡ open_standing os o.template (before o.node) → r ≡ s → Landing a b r s
-    by_return : (o : Open) (callee : List ℕ) → Within (calls o.node callee o.back) (edges_in forest a.template) → o.template ≡ a.template → o.back ≡ a.at → b ≡ open_standing (o ∷ a.open_calls) callee finish_point → r ≡ s → Landing a b r s
-
-  landing-back : (b : Standing) (r : State) (os : List Open) → b.open_calls ≡ os → HasCall os → AreCalled b.template os → b.at ≡ finish_point → Landing (left_calls os b) b r r
+  landing-back : (b : Standing) (r : State) (os : List Open) → b.open_calls ≡ os → HasCall os → AreCalled b.template os → b.at ≡ finish_point → Landing forest (left_calls os b) b r r
   landing-back b r [] is c h at = absurd c
   landing-back b r (o ∷ os) is c h at = by_return o b.template h.0 refl refl (ap₂ (λ (xs : List Open) (k : Point). open_standing xs b.template k) is at) refl
 
-  landing-move : (b : Standing) (r : State) (m : Move) → IsMove forest b m → IsClear forest b r (m ∷ []) → AreCalled b.template b.open_calls → Landing (after_moves forest b m) b r (read_moves html_language (m ∷ []) r)
+  landing-move : (b : Standing) (r : State) (m : Move) → IsMove forest b m → IsClear forest b r (m ∷ []) → AreCalled b.template b.open_calls → Landing forest (after_moves forest b m) b r (read_moves html_language (m ∷ []) r)
   landing-move b r (along (writes n bytes to)) i c h = by_edge (writes n bytes to) tt i.0 refl (ap (open_standing b.open_calls b.template) i.1) c.0 refl
   landing-move b r (along (fills n pipe to)) i c h = by_edge (fills n pipe to) tt i.0 refl (ap (open_standing b.open_calls b.template) i.1) c.0 refl
   landing-move b r (along (calls n name to)) i c h = by_call (record { template = b.template; node = n; back = to }) b.open_calls refl refl (ap (open_standing b.open_calls b.template) i.1) refl
@@ -133,10 +129,10 @@ module _ (forest : ForestData) (root_name : List ℕ) where
   landing-move b r (along (passes from to)) i c h = by_edge (passes from to) tt i.0 refl (ap (open_standing b.open_calls b.template) i.1) c.0 refl
   landing-move b r back i c h = landing-back b r b.open_calls refl i.0 h i.1
 
-  landing : (n : ℕ) (a : Standing) (s : State) (w : StepTo (Ways n) a s) → Landing a w.from w.state s
+  landing : (n : ℕ) (a : Standing) (s : State) (w : StepTo (Ways n) a s) → Landing forest a w.from w.state s
   landing n a s w =
-      subst (λ (x : Standing). Landing x w.from w.state s) w.leads
-      (subst (λ (x : State). Landing (after_moves forest w.from w.move) w.from w.state x) w.reads
+      subst (λ (x : Standing). Landing forest x w.from w.state s) w.leads
+      (subst (λ (x : State). Landing forest (after_moves forest w.from w.move) w.from w.state x) w.reads
       (landing-move w.from w.state w.move w.moves w.clear (called n w.from w.state w.ways)))
 
 within-get : (es : List Edge) (e : Edge) → Within e es → (n : ℕ) × (slice_get es n ≡ Some e)
@@ -270,7 +266,7 @@ module _ (forest : ForestData) (up : HasAscendingNames forest) (breaks : HasBrea
         by-join a.open_calls a.template there.number there.number_is e inner w s r first other there.has_own too.has_own x y (ap placed reads ∙ px) (ap placed other_reads ∙ py) none
         (joined there.has_own.own too.has_own.own) refl (λ n. back there.has_own.own too.has_own.own (at_b ∙ sym at_d) there.has_own.stands too.has_own.stands n)
 
-    combine : Landing forest root_name a b s u → Landing forest root_name a d r v → HasShowing forest root
+    combine : Landing forest a b s u → Landing forest a d r v → HasShowing forest root
     combine (by_edge e i w q at_b clear reads) (by_edge f j z p at_d other_clear other_reads) =
         let same = one-edge e f w z q p in
         along-one e i w at_b (at_d ∙ ap (λ (c : Edge). open_standing a.open_calls a.template (from_of c)) (sym same)) reads (ap (λ (c : Edge). edge_read html_language c r) same ∙ other_reads)
@@ -297,7 +293,7 @@ module _ (forest : ForestData) (up : HasAscendingNames forest) (breaks : HasBrea
   no-error-on a k s (inl m) = (let e = m.misused in cc)
   no-error-on a k s (inr e) = e
 
-  turn-edge : (a b : Standing) (r s : State) (k : ℕ) → a.at ≡ again k → Landing forest root_name a b r s → Within (passes (again k) (head k)) (edges_in forest a.template)
+  turn-edge : (a b : Standing) (r s : State) (k : ℕ) → a.at ≡ again k → Landing forest a b r s → Within (passes (again k) (head k)) (edges_in forest a.template)
   turn-edge a b r s k at (by_edge e i w q at_b clear reads) = turns-on forest a.template e k w (q ∙ at)
   turn-edge a b r s k at (by_call o os calls_are there at_b same) = absurd (not-at-start forest a.template k (sym there ∙ at))
   turn-edge a b r s k at (by_return o callee w t q at_b same) = turns-on forest a.template (calls o.node callee o.back) k w (q ∙ at)
@@ -306,46 +302,39 @@ module _ (forest : ForestData) (up : HasAscendingNames forest) (breaks : HasBrea
   turned a s k g at w = goes-on forest (at_root forest root_name) a (open_standing a.open_calls a.template (head k)) start.at s s g
       (record { moves = along (passes (again k) (head k)) ∷ []; path = ((w, at), tt); clear = (no-error-on a k s, tt); stands = refl; reads = refl })
 
+  starts : (z : Standing) → z ≡ at_root forest root_name → z.at ≡ start_in forest z.template
+  starts z same = subst (λ (c : Standing). c.at ≡ start_in forest c.template) (sym same) refl
+
   -- no move comes to where a root begins with no call open
-  not-back : (a b : Standing) (r s : State) → a ≡ at_root forest root_name → Landing forest root_name a b r s → ⊥
+  not-back : (a b : Standing) (r s : State) → a ≡ at_root forest root_name → Landing forest a b r s → ⊥
   not-back a b r s is (by_edge e i w q at_b clear reads) = none-to-start forest a.template e breaks w (q ∙ starts a is)
-    where
-      starts : (z : Standing) → z ≡ at_root forest root_name → z.at ≡ start_in forest z.template
-      starts z same = subst (λ (c : Standing). c.at ≡ start_in forest c.template) (sym same) refl
   not-back a b r s is (by_call o os calls_are at at_b same) = (let none : a.open_calls ≡ [] = ap (λ (z : Standing). z.open_calls) is in let some : o ∷ os ≡ [] = sym calls_are ∙ none in cc)
   not-back a b r s is (by_return o callee w t q at_b same) = none-to-start forest a.template (calls o.node callee o.back) breaks w (q ∙ starts a is)
-    where
-      starts : (z : Standing) → z ≡ at_root forest root_name → z.at ≡ start_in forest z.template
-      starts z same = subst (λ (c : Standing). c.at ≡ start_in forest c.template) (sym same) refl
 
   own-start : (s : State) (x : Place) → s ≡ start.at → placed s ≡ Some x → x ≡ place.Text
   own-start s x e h = one_value x place.Text (sym h ∙ ap placed e)
+
+  at-point : (a b d : Standing) (p q s r : State) → Landing forest a b p s → Landing forest a d q r → Comes a s → Comes a r → (x y : Place) → placed s ≡ Some x → placed r ≡ Some y → joined x y ≡ None
+      → ((IsMeetingPoint a.at → ⊥) → HasShowing forest root) → (k : Point) → a.at ≡ k → HasShowing forest root
+  at-point a b d p q s r l m g h x y px py none back (point.Before k) at = back (λ z. subst IsMeetingPoint at z)
+  at-point a b d p q s r l m g h x y px py none back (point.Again k) at =
+      let e = turn-edge a b p s k at l in
+      direct (open_standing a.open_calls a.template (head k)) s r (turned a s k g at e) (turned a r k h at e) x y px py none tt
+  at-point a b d p q s r l m g h x y px py none back (point.Head k) at = direct a s r g h x y px py none (subst IsJoiningPoint (sym at) tt)
+  at-point a b d p q s r l m g h x y px py none back (point.Past k) at = direct a s r g h x y px py none (subst IsJoiningPoint (sym at) tt)
+  at-point a b d p q s r l m g h x y px py none back point.Finish at = back (λ z. subst IsMeetingPoint at z)
 
   meets : (n m : ℕ) (a : Standing) (s r : State) → Ways forest root_name n a s → Ways forest root_name m a r → (x y : Place) → placed s ≡ Some x → placed r ≡ Some y → joined x y ≡ None → HasShowing forest root
   meets zero zero a s r w v x y px py none = absurd (none_some place.Text (sym (ap₂ joined (sym (own-start s x w.1 px)) (sym (own-start r y v.1 py)) ∙ none)))
   meets zero (suc m) a s r w v x y px py none = absurd (not-back a v.from v.state r w.0 (landing forest root_name m a r v))
   meets (suc n) zero a s r w v x y px py none = absurd (not-back a w.from w.state s v.0 (landing forest root_name n a s w))
-  meets (suc n) (suc m) a s r w v x y px py none = at-point a.at refl
-    where
-      g : Comes a s
-      g = goes forest root_name (suc n) a s w
-
-      h : Comes a r
-      h = goes forest root_name (suc m) a r v
-
-      back-on : (IsMeetingPoint a.at → ⊥) → HasShowing forest root
-      back-on apart = combine a w.from v.from w.state v.state s r (goes forest root_name n w.from w.state w.ways) (goes forest root_name m v.from v.state v.ways) apart x y px py none
-          (λ p q same pp pq no. meets n m w.from w.state v.state w.ways (subst (λ (z : Standing). Ways forest root_name m z v.state) (sym same) v.ways) p q pp pq no)
-          (landing forest root_name n a s w) (landing forest root_name m a r v)
-
-      at-point : (k : Point) → a.at ≡ k → HasShowing forest root
-      at-point (point.Before k) at = back-on (λ m. subst IsMeetingPoint at m)
-      at-point (point.Again k) at =
-          let e = turn-edge a w.from w.state s k at (landing forest root_name n a s w) in
-          direct (open_standing a.open_calls a.template (head k)) s r (turned a s k g at e) (turned a r k h at e) x y px py none tt
-      at-point (point.Head k) at = direct a s r g h x y px py none (subst IsJoiningPoint (sym at) tt)
-      at-point (point.Past k) at = direct a s r g h x y px py none (subst IsJoiningPoint (sym at) tt)
-      at-point point.Finish at = back-on (λ m. subst IsMeetingPoint at m)
+  meets (suc n) (suc m) a s r w v x y px py none =
+      let l = landing forest root_name n a s w in
+      let k = landing forest root_name m a r v in
+      at-point a w.from v.from w.state v.state s r l k (goes forest root_name (suc n) a s w) (goes forest root_name (suc m) a r v) x y px py none
+      (λ apart. combine a w.from v.from w.state v.state s r (goes forest root_name n w.from w.state w.ways) (goes forest root_name m v.from v.state v.ways) apart x y px py none
+      (λ p q same pp pq no. meets n m w.from w.state v.state w.ways (subst (λ (z : Standing). Ways forest root_name m z v.state) (sym same) v.ways) p q pp pq no) l k)
+      a.at refl
 
 -- two paths that do not join, wherever they stand
 members-shown : (forest : ForestData) → HasAscendingNames forest → HasBreaksInRanges forest → (root : ℕ) (os : List Open) (t : ℕ) (k : Point) → MembersDoNotJoin forest root os t k → HasShowing forest root

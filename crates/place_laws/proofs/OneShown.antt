@@ -1,5 +1,5 @@
 -- An error of one path has a showing.
-use Rattle.std.proofs.Common.{◌≡◌, ℕ, Bool, true, false, List, [], ◌∷◌, All, Option, Some, None, Result, Ok, Err, refl, sym, ap, ◌∙◌, subst, map, if◌then◌else◌, ◌⊎◌, inl, inr}
+use Rattle.std.proofs.Common.{◌≡◌, ℕ, false, List, [], ◌∷◌, All, Option, Some, None, Result, Ok, Err, refl, sym, ap, ◌∙◌, subst, map, ◌⊎◌, inl, inr}
 use Rattle.std.specs.Prelude.{slice_get}
 use Rattle.html_step.proofs.HoleOrder.{one-hole}
 use Rattle.html_step.proofs.OneTexts.{one-text}
@@ -15,12 +15,12 @@ use Rattle.place_flow.proofs.PointStateLaws.{below_refl}
 use Rattle.place_flow.specs.Errors.{Errs}
 use Rattle.place_flow.specs.Flows.{edges_at, nodes_at}
 use Rattle.place_flow.specs.HtmlCovering.{behind_hole, behind_text}
-use Rattle.place_flow.specs.Transfer.{edge_step, enters_or_refused, may_use, reaches_or_refused, step_of, use_at, use_of_node}
+use Rattle.place_flow.specs.Transfer.{edge_step, may_use, reaches_or_refused, step_of, use_at, use_of_node}
 use Rattle.place_flow.specs.declared.step.EdgeStep.{EdgeStep}
 use Rattle.place_flow.specs.declared.step.EdgeStep.TheVariants.{Enters, Reaches, Refused}
 use Rattle.place_infer.specs.Inferring.{is_end_code}
 use Rattle.place_laws.proofs.OtherCodes.{hole-code, text-code}
-use Rattle.place_laws.proofs.PathReplays.{Replayed, call-missing, parts, replay-is, replayed, some-name}
+use Rattle.place_laws.proofs.PathReplays.{call-missing, parts, replay-is, replayed, some-name}
 use Rattle.place_laws.specs.ShownErrors.{HasShowing}
 use Rattle.place_laws.specs.Witness.{OneErrs}
 use Rattle.place_show.proofs.HoleRefused.{hole-shown}

@@ -1,5 +1,5 @@
 -- No text and no hole is refused by the code of a root's end.
-use Rattle.std.proofs.Common.{◌≡◌, ℕ, ◌+◌, ◌-◌, nat_lt, codes, encode_utf8, Bool, true, false, List, [], ◌∷◌, ◌++◌, length, Option, Some, None, option_map, refl, sym, ap, ◌∙◌, subst, if◌then◌else◌, ◌||◌, ◌&&◌}
+use Rattle.std.proofs.Common.{◌≡◌, ℕ, ◌+◌, ◌-◌, nat_lt, codes, encode_utf8, Bool, true, false, List, [], ◌∷◌, ◌++◌, length, Option, Some, None, option_map, refl, subst, if◌then◌else◌, ◌||◌, ◌&&◌}
 use Rattle.std.specs.Prelude.{⊤}
 use Rattle.css_lexer.specs.RefusalCodes as style
 use Rattle.css_lexer.specs.RefusalCodes.{RefusalCode, StyleCutRefusal}
@@ -9,16 +9,16 @@ use Rattle.css_lexer.specs.Urls.{urls}
 use Rattle.js_lexer.specs.Holes.{script_after_cut}
 use Rattle.js_lexer.specs.Refusals as script
 use Rattle.js_lexer.specs.Refusals.{Cause}
-use Rattle.js_lexer.specs.States.{ScriptState, script_start}
+use Rattle.js_lexer.specs.States.{script_start}
 use Rattle.place_core.specs.page.Classes.{Class, White, QuotationMark, Apostrophe, HyphenMinus, Solidus, LessThan, EqualsSign, GreaterThan, GraveAccent, ExclamationMark, Letter, class_of, is_equals_sign}
 use Rattle.place_core.specs.page.Contents.{EndsContent, Reads, ScriptStep, is_name_of, may_be_name_of, pending_bytes, script_step}
 use Rattle.place_core.specs.page.Html.{ends_value, next}
 use Rattle.place_core.specs.page.References.{Breaks, Closed, Closes, Form, Grows, Open, Reference, ReferenceStep, as_it_stands, flushed, meaning, plain_bytes, turn}
 use Rattle.place_core.specs.page.States.{AfterAttributeName, AfterAttributeValue, AttributeName, AttributeValue, BeforeAttributeName, BeforeAttributeValue, BogusComment, Bytes, Characters, DeclarationOpen, EndTagOpen, InComment, InContent, InDoctype, InLanguage, LessAtCut, LexState, Nothing, Pending, PendingBang, PendingBangDash, PendingLess, PendingName, PendingOpening, SelfClosingStartTag, TagName, TagOpen, Template, Text, WholeAttributeName, WholeTagName}
-use Rattle.place_core.specs.page.Tags.{CutRefusal, Deciding, Feeding, OfKind, OfScript, OfStyle, OfUrl, Value, ValueOf, ValueState, attribute_value_of, feed_bytes, feeding, fed_state, is_second_type, language_feeding, languages, refusal_code, refuses_byte, refuses_cut_of, refuses_in_value, refuses_value_cut, script_code, style_code, style_cut, tag_of_name, with_bytes, element_on}
+use Rattle.place_core.specs.page.Tags.{Deciding, Feeding, OfKind, OfScript, OfStyle, OfUrl, Value, ValueOf, ValueState, attribute_value_of, feed_bytes, feeding, fed_state, is_second_type, language_feeding, languages, refusal_code, refuses_byte, refuses_cut_of, refuses_in_value, refuses_value_cut, script_code, style_code, style_cut, tag_of_name, with_bytes, element_on}
 use Rattle.place_core.specs.page.Words.{kind_of}
-use Rattle.place_core.specs.place.Errors.{FedByte, PathCause, PathRefusal, PathRefuses, RefusesHole, ScriptFeeding, TextRead, at_hand, at_value_end, attribute_name_error, bare_error, before_cause, begun_cut_error, block_byte_error, block_cut_error, block_error, body_hole_error, broken_off, byte_error, cause_back, comment_error, content_byte_error, content_end_cut_error, css_hole_error, cut_cause, cut_error, cut_places, element_script, end_name_error, ending_tag, equals_error, fed_error, fed_places, first_byte_error, first_cause, first_path_refusal, first_places, flushed_error, hole_error, is_broken, is_told_at_node_end, is_unknown_name, is_written, language_content_error, language_cut_error, language_error, less_error, lexeme_error, loose_byte_error, name_error, nests_too_deep, nothing_read, one_script, path_refusal, pending_error, quotes_error, read_behind, read_error, refusal_from, released_error, script_byte_refusal, script_cause_back, script_content_cut_error, script_content_error, script_cut_refusal, script_ending_refusal, script_fed, script_fed_refusal, script_places_refusal, script_read, script_refusal_at, split_error, standing_at, step_error, tag_error, tag_name_error, turned_error, unless_in_script, unless_second, url_hole_error, value_end_cause, place_back, places_with, step_asks, asks_back}
-use Rattle.place_core.specs.place.StatePlaces.{only_after, only_before, only_inside, only_name, placed, quotes_at, tag_spot}
+use Rattle.place_core.specs.place.Errors.{FedByte, PathCause, PathRefusal, PathRefuses, RefusesHole, ScriptFeeding, TextRead, at_hand, at_value_end, attribute_name_error, bare_error, before_cause, begun_cut_error, block_byte_error, block_cut_error, body_hole_error, broken_off, byte_error, cause_back, comment_error, content_byte_error, content_end_cut_error, css_hole_error, cut_cause, cut_error, cut_places, element_script, end_name_error, ending_tag, equals_error, fed_error, fed_places, first_byte_error, first_cause, first_path_refusal, first_places, flushed_error, hole_error, is_broken, is_unknown_name, is_written, language_content_error, language_cut_error, language_error, less_error, lexeme_error, loose_byte_error, name_error, nests_too_deep, nothing_read, one_script, pending_error, quotes_error, read_behind, read_error, refusal_from, released_error, script_byte_refusal, script_cause_back, script_content_cut_error, script_content_error, script_cut_refusal, script_ending_refusal, script_fed, script_fed_refusal, script_places_refusal, script_read, script_refusal_at, split_error, standing_at, step_error, tag_error, tag_name_error, turned_error, unless_in_script, unless_second, url_hole_error, value_end_cause, places_with, step_asks, asks_back}
+use Rattle.place_core.specs.place.StatePlaces.{only_after, only_before, only_inside, only_name, quotes_at, tag_spot}
 use Rattle.place_core.specs.declared.bare.Bare.{Bare}
 use Rattle.place_core.specs.declared.body.Body.{Body}
 use Rattle.place_core.specs.declared.body.Body.TheVariants as body

@@ -35,12 +35,12 @@ use Rattle.place_laws.specs.Witness.{PathTo, path_state}
 use Rattle.place_show.proofs.OwnApart.{own-parts}
 use Rattle.place_show.specs.Showings.{IsNamedTemplate}
 use Rattle.place_trace.proofs.OwnPlaces.{reaches-own}
-use Rattle.place_trace.specs.Replays.{IsNameKnown, IsReplayOf, name_or_none, open_of, opens_of, point_node, told, told_edge, told_of}
+use Rattle.place_trace.specs.Replays.{IsNameKnown, IsReplayOf, name_or_none, open_of, opens_of, point_node, told, told_of}
 use Rattle.place_trace.specs.UnchosenWays.{replay_at}
 use Rattle.place_trace.specs.declared.chosen.Chosen.{Chosen}
 use Rattle.place_trace.specs.declared.replay.ReplayedCall.{ReplayedCall}
 use Rattle.tpl_paths.specs.Edges.{Edge, Point, before, calls, fills, from_of, passes, picks, writes}
-use Rattle.tpl_paths.specs.Paths.{HasCall, IsPath, Move, Open, Standing, along, along_edge, at_root, back, left_calls, open_standing, reached}
+use Rattle.tpl_paths.specs.Paths.{IsPath, Move, Open, Standing, along, along_edge, at_root, back, left_calls, open_standing, reached}
 use Rattle.tpl_paths.specs.declared.choice.Way.{Way}
 use Rattle.tpl_tree.specs.Forests.{ForestData, HasAscendingNames, number_named, tree_name_at}
 
@@ -151,11 +151,13 @@ module _ (forest : ForestData) (up : HasAscendingNames forest) where
   -- no path met itself apart
   text-alone : (may : Bool) (bytes : List ℕ) (s : LexState ValueState) (o : HasOwn s) (q : Place) (x : Result Place (StepErr Place)) → after_text bytes o.own ≡ x
       → (if may then reaches_or_refused (behind_text x) else Refused) ≡ Reaches q → HasApart q → ⊥
-  text-alone true bytes s o q (Ok p) is e h = elim (met-apart.from bytes o.own q o.valid (is ∙ ap Ok cc) h) [
-    | inl k ↦ o.alone k.0
-    | inr k ↦ (let i : IsIn o.own s = record { own = o.own; stands = o.stands; valid = o.valid; below = below_refl o.own } in
-    own-parts bytes s (k.4 s s i (record { own = o.own; stands = o.stands; has = k.2 }) i (record { own = o.own; stands = o.stands; has = k.3 })).0)
-  ]
+  text-alone true bytes s o q (Ok p) is e h =
+      let same : p ≡ q = cc in
+      elim (met-apart.from bytes o.own q o.valid (subst (λ (z : Place). after_text bytes o.own ≡ Ok z) same is) h) [
+        | inl k ↦ o.alone k.0
+        | inr k ↦ (let i : IsIn o.own s = record { own = o.own; stands = o.stands; valid = o.valid; below = below_refl o.own } in
+        own-parts bytes s (k.4 s s i (record { own = o.own; stands = o.stands; has = k.2 }) i (record { own = o.own; stands = o.stands; has = k.3 })).0)
+      ]
   text-alone true bytes s o q (Err p) is e h = cc
   text-alone false bytes s o q x is e h = cc
 

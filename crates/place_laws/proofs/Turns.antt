@@ -1,5 +1,5 @@
 -- Where an edge leads to a further turn of a range, one leads on to the range's head.
-use Rattle.std.proofs.Common.{◌≡◌, ℕ, ◌+◌, List, [], ◌∷◌, ◌++◌, refl, sym, ap, subst, inl, inr}
+use Rattle.std.proofs.Common.{◌≡◌, ℕ, ◌+◌, List, [], ◌∷◌, ◌++◌, refl, sym, subst, inl, inr}
 use Rattle.tpl_paths.proofs.EdgeNodes.{within-either}
 use Rattle.tpl_paths.specs.Edges.{Edge, Point, Within, again, before, calls, edges_in, edges_of, fills, finish_point, head, node_edges, nodes_in, part_begins, passes, past_point, picks, start_in, to_of, writes}
 use Rattle.tpl_paths.specs.declared.choice.Way.TheVariants as chosen

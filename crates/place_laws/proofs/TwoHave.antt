@@ -1,34 +1,30 @@
 -- An error of two paths that meet, or that met apart, has a showing.
-use Rattle.std.proofs.Common.{◌≡◌, ℕ, zero, suc, Bool, true, false, List, [], ◌∷◌, ◌++◌, All, Option, Some, None, option_map, refl, sym, ap, ap₂, ◌∙◌, subst, map, ◌⊎◌, inl, inr}
+use Rattle.std.proofs.Common.{◌≡◌, ℕ, zero, suc, Bool, true, false, List, [], ◌∷◌, ◌++◌, All, Option, Some, None, refl, sym, ap, ap₂, ◌∙◌, subst, map, inl, inr}
 use Rattle.std.specs.Prelude.{slice_get}
 use Rattle.std.specs.Cmp.Lexicographic.{slice_cmp}
 use Rattle.std.specs.Ordering.{is_gt, nat_cmp}
 use Rattle.place_core.proofs.Semilattices.{none_some, one_value}
 use Rattle.place_core.specs.page.Classes.{Class, White, class_of}
-use Rattle.place_core.specs.page.Html.{next, start}
+use Rattle.place_core.specs.page.Html.{next}
 use Rattle.place_core.specs.page.States.{AttributeValue, BeforeAttributeValue, LexState, Template}
-use Rattle.place_core.specs.page.Tags.{Unquoted, ValueOf, ValueState, languages, refusal_code}
-use Rattle.place_core.specs.place.PathPairs.{Clashes, ClashesApart, ClashesHole, ClashesInText, begun_clash, byte_clash, parts_clash, state_before, url_part_at}
+use Rattle.place_core.specs.page.Tags.{Unquoted, ValueOf, ValueState, languages}
+use Rattle.place_core.specs.place.PathPairs.{Clashes, ClashesApart, ClashesHole, ClashesInText, begun_clash, byte_clash, parts_clash, url_part_at}
 use Rattle.place_core.specs.place.Places.{joined}
-use Rattle.place_core.specs.place.StatePlaces.{placed}
 use Rattle.place_core.specs.declared.code.Code.{Code}
 use Rattle.place_core.specs.declared.code.Code.TheVariants as code
 use Rattle.place_core.specs.declared.kind.Kind.{Kind}
 use Rattle.place_core.specs.declared.kind.Kind.TheVariants as kind
 use Rattle.place_core.specs.declared.place.Place.{Place}
-use Rattle.place_flow.proofs.Goings.{read-append}
 use Rattle.place_flow.proofs.NamedParts.{edge_within, numbered, same_nodes}
-use Rattle.place_flow.specs.Covering.{read_moves}
 use Rattle.place_flow.specs.Errors.{EdgeClashes, EdgeClashesApart, MeetApart}
 use Rattle.place_flow.specs.Flows.{edges_at}
-use Rattle.place_flow.specs.HtmlCovering.{html_language}
 use Rattle.place_infer.specs.Inferring.{is_end_code}
 use Rattle.place_laws.proofs.LastPoints.{met-last, shown-in}
 use Rattle.place_laws.proofs.OneShown.{one-shown, seen-at, showing-of}
 use Rattle.place_laws.proofs.OtherCodes.{url-code}
 use Rattle.place_laws.proofs.PathReplays.{Replayed, replay-is, replayed, some-name}
 use Rattle.place_laws.specs.ShownErrors.{HasShowing, JoinsAreShown, RefusalsAreShown}
-use Rattle.place_laws.specs.Witness.{ApartErr, MembersDoNotJoin, PathTo, RefusalErr, TwoErr, path_state}
+use Rattle.place_laws.specs.Witness.{ApartErr, MembersDoNotJoin, PathTo, path_state}
 use Rattle.place_show.proofs.Makings.{shown-by}
 use Rattle.place_show.proofs.Orders.{not-both-greater}
 use Rattle.place_show.proofs.TwoShown.{two-shown}
@@ -37,7 +33,7 @@ use Rattle.place_show.specs.PathTexts.{path_text}
 use Rattle.place_show.specs.Showings.{IsNamedTemplate, IsShownBy, JoinsAt, Meet, ShowsTwo, TwoErrors, kind_of_node, line_of_byte, line_of_node, path_state_after, seen_choice}
 use Rattle.place_show.specs.declared.showing.Seen.{Seen}
 use Rattle.place_show.specs.declared.showing.Showing.{Showing}
-use Rattle.place_trace.specs.Replays.{IsReplayOf, ReplayData, name_or_none, opens_of, replay_data}
+use Rattle.place_trace.specs.Replays.{IsReplayOf, ReplayData, name_or_none, replay_data}
 use Rattle.place_trace.specs.UnchosenWays.{replay_at}
 use Rattle.place_trace.specs.declared.chosen.Chosen.{Chosen}
 use Rattle.place_trace.specs.declared.replay.PathReplay.{PathReplay}
