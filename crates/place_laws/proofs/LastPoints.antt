@@ -110,10 +110,10 @@ here-last n bytes s r a = inl (
 
 module _ (bytes : List ℕ) (s r : LexState ValueState) where
   not-at : (k n : ℕ) → n ≤ suc k → (AreApartAfter (suc k) bytes s r → ⊥) → (n ≤ k → ⊥) → AreApartAfter n bytes s r → ⊥
-  not-at k n le no none h = elim (below-or n k le) [ inl b ↦ none b | inr e ↦ no (subst (λ (m : ℕ). AreApartAfter m bytes s r) e h) ]
+  not-at k n le never none h = elim (below-or n k le) [ inl b ↦ none b | inr e ↦ never (subst (λ (m : ℕ). AreApartAfter m bytes s r) e h) ]
 
   more-last : (k : ℕ) → (AreApartAfter (suc k) bytes s r → ⊥) → FoundIn k bytes s r → FoundIn (suc k) bytes s r
-  more-last k no (inl l) =
+  more-last k never (inl l) =
       let i = l.2 in
       let inside = i.within in
       inl (
@@ -125,19 +125,19 @@ module _ (bytes : List ℕ) (s r : LexState ValueState) where
           apart = i.apart;
           stands = i.stands;
           other_stands = i.other_stands;
-          last = λ n more within h. not-at k n within no (λ b. i.last n more b h) h;
+          last = λ n more within h. not-at k n within never (λ b. i.last n more b h) h;
         },
       )
-  more-last k no (inr none) = inr (λ n within h. not-at k n within no (λ b. none n b h) h)
+  more-last k never (inr none) = inr (λ n within h. not-at k n within never (λ b. none n b h) h)
 
   pub last-in : (upto : ℕ) → FoundIn upto bytes s r
   last-in zero = elim (apart-or-not (drop zero bytes) (states (take zero bytes) s) (states (take zero bytes) r)) [
     | inl a ↦ here-last zero bytes s r a
-    | inr no ↦ inr (λ n within h. (let none : n ≡ zero = omega (arith, within) in no (subst (λ (m : ℕ). AreApartAfter m bytes s r) none h)))
+    | inr never ↦ inr (λ n within h. (let none : n ≡ zero = omega (arith, within) in never (subst (λ (m : ℕ). AreApartAfter m bytes s r) none h)))
   ]
   last-in (suc k) = elim (apart-or-not (drop (suc k) bytes) (states (take (suc k) bytes) s) (states (take (suc k) bytes) r)) [
     | inl a ↦ here-last (suc k) bytes s r a
-    | inr no ↦ more-last k no (last-in k)
+    | inr never ↦ more-last k never (last-in k)
   ]
 
   -- where two paths are shown that are refused together
@@ -162,7 +162,7 @@ last-along : (common : List Move) (upto : ℕ) (bytes : List ℕ) (s r : LexStat
 last-along [] upto bytes s r = last-in bytes s r upto
 last-along (along e ∷ common) upto bytes s r = elim (last-along common upto bytes (edge_read html_language e s) (edge_read html_language e r)) [
   | inl l ↦ inl (l.0, l.1, inr l.2)
-  | inr none ↦ elim (edge-last e s r) [ inl l ↦ inl (l.0, l.1, inl (l.2, none)) | inr no ↦ inr (no, none) ]
+  | inr none ↦ elim (edge-last e s r) [ inl l ↦ inl (l.0, l.1, inl (l.2, none)) | inr never ↦ inr (never, none) ]
 ]
 last-along (back ∷ common) upto bytes s r = last-along common upto bytes s r
 

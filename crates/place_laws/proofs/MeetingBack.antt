@@ -148,7 +148,7 @@ module _ (forest : ForestData) (up : HasAscendingNames forest) (breaks : HasBrea
   abbrev Comes : Standing → State → Type 0
   Comes a s = Goes forest (at_root forest root_name) start.at a s
 
-  path-to : (a : Standing) (s : State) → Comes a s → (t : ℕ) → tree_name_at forest t ≡ Some a.template → PathTo forest root a.open_calls t a.at
+  abbrev path-to : (a : Standing) (s : State) → Comes a s → (t : ℕ) → tree_name_at forest t ≡ Some a.template → PathTo forest root a.open_calls t a.at
   path-to a s g t is = record { root_name = root_name; root_is = root_is; name = a.template; name_is = is; moves = g.moves; path = g.path; clear = g.clear; stands = g.stands }
 
   direct : (a : Standing) (s r : State) → Comes a s → Comes a r → (x y : Place) → placed s ≡ Some x → placed r ≡ Some y → joined x y ≡ None → IsJoiningPoint a.at → HasShowing forest root
@@ -246,12 +246,12 @@ module _ (forest : ForestData) (up : HasAscendingNames forest) (breaks : HasBrea
       by-step Refused step = refusals-shown forest root os t edge-got.0 e up edge-got.1 (refused-stands forest up root os t c valid e bears bears-apart step)
 
     by-join : (z : Option Place) → joined o.own p.own ≡ z → (joined o.own p.own ≡ None → HasShowing forest root) → HasShowing forest root
-    by-join (Some c) joins back = by-step c joins (step_of forest t e c) refl
-    by-join None joins back = back joins
+    by-join (Some c) joins earlier = by-step c joins (step_of forest t e c) refl
+    by-join None joins earlier = earlier joins
 
   -- from where the last moves of two paths came
   module _ (a b d : Standing) (s r u v : State) (g : Comes b s) (h : Comes d r) (apart : IsMeetingPoint a.at → ⊥) (x y : Place) (px : placed u ≡ Some x) (py : placed v ≡ Some y) (none : joined x y ≡ None)
-      (back : (p q : Place) → b ≡ d → placed s ≡ Some p → placed r ≡ Some q → joined p q ≡ None → HasShowing forest root) where
+      (earlier : (p q : Place) → b ≡ d → placed s ≡ Some p → placed r ≡ Some q → joined p q ≡ None → HasShowing forest root) where
     one-edge : (e f : Edge) → Within e (edges_in forest a.template) → Within f (edges_in forest a.template) → to_of e ≡ a.at → to_of f ≡ a.at → e ≡ f
     one-edge e f w z i j = elim (meet-at-controls forest a.template e f breaks w z (i ∙ sym j)) [ inl m ↦ absurd (apart (subst IsMeetingPoint i m)) | inr same ↦ same ]
 
@@ -264,7 +264,7 @@ module _ (forest : ForestData) (up : HasAscendingNames forest) (breaks : HasBrea
         let there = stands-there forest up root root_name k s root_is first in
         let too = stands-there forest up root root_name k r root_is other in
         by-join a.open_calls a.template there.number there.number_is e inner w s r first other there.has_own too.has_own x y (ap placed reads ∙ px) (ap placed other_reads ∙ py) none
-        (joined there.has_own.own too.has_own.own) refl (λ n. back there.has_own.own too.has_own.own (at_b ∙ sym at_d) there.has_own.stands too.has_own.stands n)
+        (joined there.has_own.own too.has_own.own) refl (λ n. earlier there.has_own.own too.has_own.own (at_b ∙ sym at_d) there.has_own.stands too.has_own.stands n)
 
     combine : Landing forest a b s u → Landing forest a d r v → HasShowing forest root
     combine (by_edge e i w q at_b clear reads) (by_edge f j z p at_d other_clear other_reads) =
@@ -277,7 +277,7 @@ module _ (forest : ForestData) (up : HasAscendingNames forest) (breaks : HasBrea
         let calls_same : o ∷ os ≡ p ∷ ps = sym calls_are ∙ other_calls in
         let head_same : o ≡ p = cc in
         let tail_same : os ≡ ps = cc in
-        back x y (at_b ∙ (ap₂ (λ (c : Open) (cs : List Open). open_standing cs c.template (before c.node)) head_same tail_same ∙ sym at_d)) (ap placed same ∙ px) (ap placed other_same ∙ py) none
+        earlier x y (at_b ∙ (ap₂ (λ (c : Open) (cs : List Open). open_standing cs c.template (before c.node)) head_same tail_same ∙ sym at_d)) (ap placed same ∙ px) (ap placed other_same ∙ py) none
     combine (by_call o os calls_are at at_b same) (by_return p callee z t k at_d other_same) = absurd (none-to-start forest a.template (calls p.node callee p.back) breaks z (k ∙ at))
     combine (by_return o callee w t k at_b same) (by_edge f j z p at_d other_clear other_reads) = absurd (subst IsInner (sym (one-edge (calls o.node callee o.back) f w z k p)) j)
     combine (by_return o callee w t k at_b same) (by_call p ps other_calls other_at at_d other_same) = absurd (none-to-start forest a.template (calls o.node callee o.back) breaks w (k ∙ other_at))
@@ -286,7 +286,7 @@ module _ (forest : ForestData) (up : HasAscendingNames forest) (breaks : HasBrea
         let node_same : o.node ≡ p.node = cc in
         let callee_same : callee ≡ other_callee = cc in
         let open_same : o ≡ p = same-open o p (t ∙ sym u) node_same (k ∙ sym l) in
-        back x y (at_b ∙ (ap₂ (λ (c : Open) (name : List ℕ). open_standing (c ∷ a.open_calls) name finish_point) open_same callee_same ∙ sym at_d)) (ap placed same ∙ px) (ap placed other_same ∙ py) none
+        earlier x y (at_b ∙ (ap₂ (λ (c : Open) (name : List ℕ). open_standing (c ∷ a.open_calls) name finish_point) open_same callee_same ∙ sym at_d)) (ap placed same ∙ px) (ap placed other_same ∙ py) none
 
   -- a path that stands before a further turn of a range goes on to its head
   no-error-on : (a : Standing) (k : ℕ) (s : State) → Errs forest a.template (passes (again k) (head k)) s → ⊥
@@ -316,13 +316,13 @@ module _ (forest : ForestData) (up : HasAscendingNames forest) (breaks : HasBrea
 
   at-point : (a b d : Standing) (p q s r : State) → Landing forest a b p s → Landing forest a d q r → Comes a s → Comes a r → (x y : Place) → placed s ≡ Some x → placed r ≡ Some y → joined x y ≡ None
       → ((IsMeetingPoint a.at → ⊥) → HasShowing forest root) → (k : Point) → a.at ≡ k → HasShowing forest root
-  at-point a b d p q s r l m g h x y px py none back (point.Before k) at = back (λ z. subst IsMeetingPoint at z)
-  at-point a b d p q s r l m g h x y px py none back (point.Again k) at =
+  at-point a b d p q s r l m g h x y px py none earlier (point.Before k) at = earlier (λ z. subst IsMeetingPoint at z)
+  at-point a b d p q s r l m g h x y px py none earlier (point.Again k) at =
       let e = turn-edge a b p s k at l in
       direct (open_standing a.open_calls a.template (head k)) s r (turned a s k g at e) (turned a r k h at e) x y px py none tt
-  at-point a b d p q s r l m g h x y px py none back (point.Head k) at = direct a s r g h x y px py none (subst IsJoiningPoint (sym at) tt)
-  at-point a b d p q s r l m g h x y px py none back (point.Past k) at = direct a s r g h x y px py none (subst IsJoiningPoint (sym at) tt)
-  at-point a b d p q s r l m g h x y px py none back point.Finish at = back (λ z. subst IsMeetingPoint at z)
+  at-point a b d p q s r l m g h x y px py none earlier (point.Head k) at = direct a s r g h x y px py none (subst IsJoiningPoint (sym at) tt)
+  at-point a b d p q s r l m g h x y px py none earlier (point.Past k) at = direct a s r g h x y px py none (subst IsJoiningPoint (sym at) tt)
+  at-point a b d p q s r l m g h x y px py none earlier point.Finish at = earlier (λ z. subst IsMeetingPoint at z)
 
   meets : (n m : ℕ) (a : Standing) (s r : State) → Ways forest root_name n a s → Ways forest root_name m a r → (x y : Place) → placed s ≡ Some x → placed r ≡ Some y → joined x y ≡ None → HasShowing forest root
   meets zero zero a s r w v x y px py none = absurd (none_some place.Text (sym (ap₂ joined (sym (own-start s x w.1 px)) (sym (own-start r y v.1 py)) ∙ none)))
@@ -333,7 +333,7 @@ module _ (forest : ForestData) (up : HasAscendingNames forest) (breaks : HasBrea
       let k = landing forest root_name m a r v in
       at-point a w.from v.from w.state v.state s r l k (goes forest root_name (suc n) a s w) (goes forest root_name (suc m) a r v) x y px py none
       (λ apart. combine a w.from v.from w.state v.state s r (goes forest root_name n w.from w.state w.ways) (goes forest root_name m v.from v.state v.ways) apart x y px py none
-      (λ p q same pp pq no. meets n m w.from w.state v.state w.ways (subst (λ (z : Standing). Ways forest root_name m z v.state) (sym same) v.ways) p q pp pq no) l k)
+      (λ p q same pp pq apart_there. meets n m w.from w.state v.state w.ways (subst (λ (z : Standing). Ways forest root_name m z v.state) (sym same) v.ways) p q pp pq apart_there) l k)
       a.at refl
 
 -- two paths that do not join, wherever they stand

@@ -107,6 +107,7 @@ module _ (forest : ForestData) (up : HasAscendingNames forest) where
   open-named o n k = record { template = name_or_none o; node = n; back = k }
 
   calls-are : (os : List Open) (h : AreNumbered os) → map (open_of forest) (calls-by os h) ≡ os
+  unfolding calls-by
   calls-are [] h = refl
   calls-are (o ∷ os) h = ap₂ (λ (x : Open) (xs : List Open). x ∷ xs) (ap (λ (n : Option (List ℕ)). open-named n o.node o.back) h.0.1) (calls-are os h.1)
 
@@ -156,7 +157,7 @@ module _ (forest : ForestData) (up : HasAscendingNames forest) where
       elim (met-apart.from bytes o.own q o.valid (subst (λ (z : Place). after_text bytes o.own ≡ Ok z) same is) h) [
         | inl k ↦ o.alone k.0
         | inr k ↦ (let i : IsIn o.own s = record { own = o.own; stands = o.stands; valid = o.valid; below = below_refl o.own } in
-        own-parts bytes s (k.4 s s i (record { own = o.own; stands = o.stands; has = k.2 }) i (record { own = o.own; stands = o.stands; has = k.3 })).0)
+            own-parts bytes s (k.4 s s i (record { own = o.own; stands = o.stands; has = k.2 }) i (record { own = o.own; stands = o.stands; has = k.3 })).0)
       ]
   text-alone true bytes s o q (Err p) is e h = cc
   text-alone false bytes s o q x is e h = cc
@@ -241,9 +242,9 @@ module _ (forest : ForestData) (up : HasAscendingNames forest) where
         named = w.tells.named;
       }
 
-  pub replay-is : (root : ℕ) (os : List Open) (t : ℕ) (k : Point) (p : PathTo forest root os t k) (r : Replayed root os t k p) (calls : List ReplayedCall) → opens_of forest calls ≡ os
-      → IsReplayOf forest (replay_at root calls t k r.own r.chosen)
-  replay-is root os t k p r calls opens = record {
+  abbrev pub replay-is : (root : ℕ) (os : List Open) (t : ℕ) (k : Point) (p : PathTo forest root os t k) (r : Replayed root os t k p) (kept : List ReplayedCall) → opens_of forest kept ≡ os
+      → IsReplayOf forest (replay_at root kept t k r.own r.chosen)
+  replay-is root os t k p r kept opens = record {
     root_name = p.root_name;
     root_is = p.root_is;
     name = p.name;

@@ -130,7 +130,7 @@ module _ (n : ℕ) (all : List Edge) where
     own (kind.Template name pipe) inside = one (calls k name to) h
 
   nodes-turn : (nodes : NodesData) (k : ℕ) → Part nodes k
-  nodes-turn no_nodes k to out on h i j inside e w = absurd w
+  nodes-turn no_nodes k to out on h i j inside = λ e w. absurd w
   nodes-turn (node what l s first other rest) k to out on h i j inside =
       let second : ℕ = k + 1 + nodes_size first in
       let behind : ℕ = second + nodes_size other in
