@@ -26,10 +26,10 @@ use Rattle.tpl_tree.specs.Forests.{ForestData, HasAscendingNames, number_named, 
 use Rattle.tpl_tree.specs.Trees.{TreeData}
 
 -- the number of a root is that of a name among those of the roots
-record IsRootOf (forest : ForestData) (names : List (List ℕ)) (t : ℕ) : Type 0 where
-  name : List ℕ
-  among : Contains names name
-  number : number_named name forest ≡ Some t
+pub record IsRootOf (forest : ForestData) (names : List (List ℕ)) (t : ℕ) : Type 0 where
+  pub name : List ℕ
+  pub among : Contains names name
+  pub number : number_named name forest ≡ Some t
 
 more-names : (forest : ForestData) (x : List ℕ) (names : List (List ℕ)) (t : ℕ) → IsRootOf forest names t → IsRootOf forest (x ∷ names) t
 more-names forest x names t r = (let lt = r.among.1 in record { name = r.name; among = (suc r.among.0, omega (arith, lt), r.among.2); number = r.number })
@@ -45,7 +45,7 @@ root-of : (forest : ForestData) (names : List (List ℕ)) (t k : ℕ) → k < le
 root-of forest [] t k lt is = absurd (omega (arith, lt))
 root-of forest (x ∷ names) t k lt is = root-with forest x names t k (number_named x forest) refl (λ i below same. root-of forest names t i below same) lt is
 
-is-root : (forest : ForestData) (names : List (List ℕ)) (t : ℕ) → Contains (root_numbers forest names) t → IsRootOf forest names t
+pub is-root : (forest : ForestData) (names : List (List ℕ)) (t : ℕ) → Contains (root_numbers forest names) t → IsRootOf forest names t
 is-root forest names t c = root-of forest names t c.0 c.1 c.2
 
 some-entry : (o : Option (List ℕ × TreeData)) (name : List ℕ) → option_map (λ x. x.0) o ≡ Some name → (x : List ℕ × TreeData) × (o ≡ Some x)
@@ -56,7 +56,7 @@ within-forest : (forest : ForestData) (t : ℕ) (name : List ℕ) → tree_name_
 within-forest forest t name e = (let x = some-entry (slice_get forest t) name e in slice_get_within forest t x.0 x.1)
 
 -- the roots are templates of the forest
-roots-stand : (forest : ForestData) (names : List (List ℕ)) → AreTemplates forest (root_numbers forest names)
+pub roots-stand : (forest : ForestData) (names : List (List ℕ)) → AreTemplates forest (root_numbers forest names)
 roots-stand forest names k d lt =
     let t : ℕ = get_or (root_numbers forest names) k d in
     let r = is-root forest names t (All-contains_itself (root_numbers forest names) k d lt) in

@@ -4,9 +4,16 @@ pub mod Comings
 pub mod CommonMoves
 pub mod ConflictEdges
 pub mod ErrorFree
+pub mod LastPoints
+pub mod MeetingBack
 pub mod MeetingPoints
 pub mod NoErrors
 pub mod NoRefusal
+pub mod OneShown
+pub mod OtherCodes
+pub mod PathReplays
 pub mod RefusalEvidences
 pub mod TakenEdges
+pub mod Turns
+pub mod TwoHave
 pub mod TwoPaths

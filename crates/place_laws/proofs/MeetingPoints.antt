@@ -1,13 +1,13 @@
 -- Two edges of a template lead to one point only where paths meet: at a range, and after the parts of a control.
 use Rattle.std.proofs.Common.{◌≡◌, ◌⊎◌, ℕ, ◌+◌, ◌<◌, ◌≤◌, Bool, true, false, List, [], ◌∷◌, ◌++◌, Option, Some, None, refl, sym, ap, ◌∙◌, subst, inl, inr, arith}
 use Rattle.std.specs.Prelude.{⊤}
-use Rattle.place_infer.specs.BreaksInRanges.{BreaksStand, MayStand, part_in_range}
+use Rattle.place_infer.specs.BreaksInRanges.{BreaksStand, HasBreaksInRanges, MayStand, part_in_range}
 use Rattle.place_laws.specs.MeetingPoints.{EdgesMeetAtControls, IsMeetingPoint}
 use Rattle.tpl_paths.proofs.EdgeNodes.{within-either}
-use Rattle.tpl_paths.specs.Edges.{Edge, Point, Within, again, before, calls, edges_of, fills, finish_point, head, node_edges, nodes_in, part_begins, passes, past_point, path_nodes_of_tree, picks, to_of, writes}
+use Rattle.tpl_paths.specs.Edges.{Edge, Point, Within, again, before, calls, edges_in, edges_of, fills, finish_point, head, node_edges, nodes_in, part_begins, passes, past_point, path_nodes_of_tree, picks, start_in, to_of, writes}
 use Rattle.tpl_paths.specs.declared.choice.Way.TheVariants as chosen
 use Rattle.tpl_paths.specs.declared.point.Point.TheVariants as point
-use Rattle.tpl_tree.specs.Forests.{tree_named}
+use Rattle.tpl_tree.specs.Forests.{ForestData, tree_named}
 use Rattle.tpl_tree.specs.Trees.{NodesData, TreeData, no_nodes, node, nodes_size}
 use Rattle.tpl_tree.specs.declared.node_kind.NodeKind.{NodeKind}
 use Rattle.tpl_tree.specs.declared.node_kind.NodeKind.TheVariants as kind
@@ -322,3 +322,22 @@ meet-at-controls forest name e f stands v w q =
     let nodes : NodesData = nodes_in forest name in
     let size : ℕ = nodes_size nodes in
     (nodes_block size false nodes 0 (tree_stands (tree_named name forest) (stands name)) size (size + 1) finish_point finish_point finish_point (omega arith) (inr (omega arith, omega arith)) tt).single e f v w q
+
+-- no edge leads to where a template begins
+before-first : (end a b : ℕ) → 0 < a → Ranged end a b (before 0) → ⊥
+before-first end a b lt (inl m) = m
+before-first end a b lt (inr h) = (let low = h.0 in omega (arith, lt, low))
+
+none-to-first : (nodes : NodesData) → BreaksStand false nodes → (e : Edge) → Within e (edges_of nodes 0 finish_point finish_point finish_point) → to_of e ≡ part_begins nodes 0 finish_point → ⊥
+none-to-first no_nodes h e w q = w
+none-to-first (node what l s first other rest) h e w q =
+    let nodes : NodesData = node what l s first other rest in
+    let size : ℕ = nodes_size nodes in
+    let block = nodes_block size false nodes 0 h size (size + 1) finish_point finish_point finish_point (omega arith) (inr (omega arith, omega arith)) tt in
+    elim (block.ranged e w) [
+      | inl r ↦ before-first size (0 + 1) (0 + size) (omega arith) (subst (Ranged size (0 + 1) (0 + size)) q r)
+      | inr r ↦ before-first size size (size + 1) (omega arith) (subst (Ranged size size (size + 1)) q r)
+    ]
+
+pub none-to-start : (forest : ForestData) (name : List ℕ) (e : Edge) → HasBreaksInRanges forest → Within e (edges_in forest name) → to_of e ≡ start_in forest name → ⊥
+none-to-start forest name e stands w q = none-to-first (nodes_in forest name) (tree_stands (tree_named name forest) (stands name)) e w q

@@ -1,3 +1,4 @@
 pub mod Exactness
 pub mod MeetingPoints
+pub mod ShownErrors
 pub mod Witness

@@ -3,6 +3,7 @@
 
 mod exact_laws;
 mod path_laws;
+mod shown_laws;
 
 pub use exact_laws::{
     charted_sets_are_not_refused, charted_sets_have_no_error,
@@ -13,3 +14,4 @@ pub use path_laws::{
     edges_meet_at_controls, every_conflict_has_error, every_member_has_a_path,
     every_root_has_a_path,
 };
+pub use shown_laws::{every_conflict_is_shown, joins_are_shown, refusals_are_shown};
