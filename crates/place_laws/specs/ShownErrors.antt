@@ -18,8 +18,8 @@ use Rattle.tpl_paths.specs.Paths.{Open}
 use Rattle.tpl_paths.specs.declared.point.Point.TheVariants as point
 use Rattle.tpl_tree.specs.Forests.{ForestData, HasAscendingNames, tree_name_at}
 
--- A showing of a root that is none of an end, and the paths that it shows, which are one where it shows one. These may be of any length, where
--- those that the code keeps are not: so it is shown by each replay that has what a path has.
+-- A showing of a root that is none of an end, and the paths that it shows, which are one where it shows one. These may be of any
+-- length, where those that the code keeps are not: so it is shown by each replay that has what a path has.
 pub record HasShowing (forest : ForestData) (root : ℕ) : Type 0 where
   pub sh : Showing
   pub root_is : tree_name_at forest root ≡ Some sh.root
@@ -32,7 +32,9 @@ pub record HasShowing (forest : ForestData) (root : ℕ) : Type 0 where
 
 -- An error at an edge of a template, on a path of a root, on two that meet before the edge, or on two that met apart, has a showing.
 abbrev pub RefusalsAreShown : Type 0
-RefusalsAreShown = (forest : ForestData) (root : ℕ) (open_calls : List Open) (t n : ℕ) (e : Edge) → HasAscendingNames forest → slice_get (edges_at forest t) n ≡ Some e
+RefusalsAreShown =
+    (forest : ForestData) (root : ℕ) (open_calls : List Open) (t n : ℕ) (e : Edge)
+    → HasAscendingNames forest → slice_get (edges_at forest t) n ≡ Some e
     → RefusalErr forest root open_calls t e → HasShowing forest root
 
 -- where paths come together: at the head of a range, and after the parts of a control
@@ -45,7 +47,10 @@ IsJoiningPoint point.Finish = ⊥
 
 -- Two paths of a root that come together there in places that do not join have a showing.
 abbrev pub JoinsAreShown : Type 0
-JoinsAreShown = (forest : ForestData) (root : ℕ) (open_calls : List Open) (t : ℕ) (k : Point) → HasAscendingNames forest → IsJoiningPoint k → MembersDoNotJoin forest root open_calls t k → HasShowing forest root
+JoinsAreShown =
+    (forest : ForestData) (root : ℕ) (open_calls : List Open) (t : ℕ) (k : Point)
+    → HasAscendingNames forest → IsJoiningPoint k
+    → MembersDoNotJoin forest root open_calls t k → HasShowing forest root
 
 -- Where something is in conflict, there is a showing of one of the roots.
 pub record ConflictIsShown (forest : ForestData) (names : List (List ℕ)) : Type 0 where
@@ -54,5 +59,8 @@ pub record ConflictIsShown (forest : ForestData) (names : List (List ℕ)) : Typ
   pub is_root : Contains names showing.sh.root
 
 abbrev pub EveryConflictIsShown : Type 0
-EveryConflictIsShown = (forest : ForestData) (names : List (List ℕ)) (log : List Derivation) (conflict : FirstConflict) → HasAscendingNames forest → HasBreaksInRanges forest
-    → IsMadeDerivation forest (root_numbers forest names) place.Text log → IsFirstConflict forest log conflict → ConflictIsShown forest names
+EveryConflictIsShown =
+    (forest : ForestData) (names : List (List ℕ)) (log : List Derivation) (conflict : FirstConflict)
+    → HasAscendingNames forest → HasBreaksInRanges forest
+    → IsMadeDerivation forest (root_numbers forest names) place.Text log → IsFirstConflict forest log conflict
+    → ConflictIsShown forest names
