@@ -50,13 +50,13 @@ fn put_command(
     input: MemSource,
     output: MemSink,
 ) -> Result<(), CaseStop> {
-    // `serve` waits: a table has no row of it.
+    // `serve` waits: its rows are those of `serve_rows.rt`.
     if begins_serve(words) {
         return Err(CaseStop::Form);
     }
     let alloc = out.alloc();
     let (mut input, mut output) = (input, output);
-    let mut lines = MemSink::new(alloc, ROOM, LINES_STEP, List::new(alloc))?;
+    let mut lines = sink_of_lines(alloc)?;
     let (status, _) = run_files(alloc, words, folder, &mut input, &mut output, &mut lines);
     if status == Status::Memory {
         return Err(CaseStop::Memory);
@@ -65,15 +65,16 @@ fn put_command(
     Ok(())
 }
 
-fn put_end(out: &mut CaseOutput, status: Status, output: &[u8], lines: &[u8]) {
+/// Writes a status with its number, the output, and the lines for people.
+pub fn put_end(out: &mut CaseOutput, status: Status, output: &[u8], lines: &[u8]) {
     let code = status.code();
     let output = std::str::from_utf8(output).unwrap_or("not UTF-8");
     let lines = std::str::from_utf8(lines).unwrap_or("not UTF-8");
     out.put_made(format!(in out.alloc(); "status {code}\nout: {output}\nerr: {lines}"));
 }
 
-// The words of a command: a list of them, or a text with blanks between them.
-fn words_of(alloc: Global, words: &Datum) -> Result<Vec<String>, CaseStop> {
+/// The words of a command: a list of them, or a text with blanks between them.
+pub fn words_of(alloc: Global, words: &Datum) -> Result<Vec<String>, CaseStop> {
     let mut all = Vec::new(alloc);
     match words {
         Datum::List(words) => {
@@ -90,13 +91,14 @@ fn words_of(alloc: Global, words: &Datum) -> Result<Vec<String>, CaseStop> {
     Ok(all)
 }
 
-// The folder of files, each a list of its name and its bytes.
+// The folder of files.
 fn folder_of(alloc: Global, files: &[Datum], settings: &[Datum]) -> Result<MemFolder, CaseStop> {
     let fails = fails_of(alloc, settings, "folder fails")?;
     Ok(MemFolder::new(files_of(alloc, files)?, fails))
 }
 
-fn files_of(alloc: Global, files: &[Datum]) -> Result<List<MemFile>, CaseStop> {
+/// Files of the directory `D`, each a list of its name and its bytes.
+pub fn files_of(alloc: Global, files: &[Datum]) -> Result<List<MemFile>, CaseStop> {
     let mut all = List::new(alloc);
     for file in files {
         let (name, bytes) = pair_of(file)?;
@@ -111,10 +113,16 @@ fn input_of(alloc: Global, row: &CaseRow, settings: &[Datum]) -> Result<MemSourc
     Ok(MemSource::new(row.bytes(alloc, 2)?, step.max(1), fails))
 }
 
-fn output_of(alloc: Global, settings: &[Datum]) -> Result<MemSink, CaseStop> {
+/// The output of a command.
+pub fn output_of(alloc: Global, settings: &[Datum]) -> Result<MemSink, CaseStop> {
     let step = step_of(settings, "output step", OUTPUT_STEP)?;
     let fails = fails_of(alloc, settings, "output fails")?;
     Ok(MemSink::new(alloc, ROOM, step.max(1), fails)?)
+}
+
+/// Where the lines for people go.
+pub fn sink_of_lines(alloc: Global) -> Result<MemSink, CaseStop> {
+    Ok(MemSink::new(alloc, ROOM, LINES_STEP, List::new(alloc))?)
 }
 
 fn status_of(name: &str) -> Result<Status, CaseStop> {

@@ -15,6 +15,20 @@ pub fn settings_of(settings: &[Datum]) -> Result<&[Datum], CaseStop> {
     Ok(settings)
 }
 
+/// The settings of a row of `serve`, where all of the names are known.
+pub fn serve_settings_of(settings: &[Datum]) -> Result<&[Datum], CaseStop> {
+    for setting in settings {
+        let (name, _) = pair_of(setting)?;
+        match text_of(name)? {
+            "folder fails" | "files later" | "files last" | "output fails" | "output step" => {}
+            "doors" | "net fails" | "seats fail" | "spawner fails" => {}
+            "door fails" | "link fails" => {}
+            _ => return Err(CaseStop::Form),
+        }
+    }
+    Ok(settings)
+}
+
 // The value of the first setting with a name, if there is one.
 fn setting<'a>(settings: &'a [Datum], name: &str) -> Result<Option<&'a Datum>, CaseStop> {
     for setting in settings {
@@ -24,6 +38,25 @@ fn setting<'a>(settings: &'a [Datum], name: &str) -> Result<Option<&'a Datum>, C
         }
     }
     Ok(None)
+}
+
+/// The doors of a net, each a list of what its links give: none where no setting says it.
+pub fn doors_of(settings: &[Datum]) -> Result<&[Datum], CaseStop> {
+    match setting(settings, "doors")? {
+        Some(value) => list_of(value),
+        None => Ok(&[]),
+    }
+}
+
+/// The files that a setting of this name says the folder has later, if there is one.
+pub fn other_files_of<'d>(
+    settings: &'d [Datum],
+    name: &str,
+) -> Result<Option<&'d [Datum]>, CaseStop> {
+    match setting(settings, name)? {
+        Some(value) => Ok(Some(list_of(value)?)),
+        None => Ok(None),
+    }
 }
 
 /// The calls on a device that are to fail.

@@ -6,10 +6,13 @@
 mod engine;
 
 use crate::engine::Engine;
+use case_pages::{is_of_serve, serve_report_of};
 use case_table::{CaseStop, report_of};
-use page_datum::read_datum;
+use page_datum::{Datum, read_datum};
 use page_io::{Bytes, IoStop, ReadSource, Text, read_up_to};
 use std::process::ExitCode;
+use std::sync::Wait;
+use std::thread::Threads;
 use std::{env, fs, io};
 
 // The most bytes of a file of cases.
@@ -21,7 +24,7 @@ fn main(rt: HostRuntime) -> ExitCode {
     };
     let mut holds = true;
     for file in words.skip(1) {
-        match is_held(&rt, file.as_str()) {
+        match is_held(&rt, &rt, file.as_str()) {
             Ok(true) => {}
             Ok(false) => holds = false,
             Err(_) => return ExitCode::from(6),
@@ -31,8 +34,12 @@ fn main(rt: HostRuntime) -> ExitCode {
 }
 
 // Prints the report of a file, and says whether the file holds.
-fn is_held(rt: &HostRuntime, name: &str) -> io::Result<bool> {
-    match report(rt, name) {
+fn is_held<R: Threads + Wait + Sync>(
+    rt: &HostRuntime,
+    threads: &R,
+    name: &str,
+) -> io::Result<bool> {
+    match report(rt, threads, name) {
         Ok(report) if report.is_empty() => {
             println!(rt; "{name}: holds")?;
             Ok(true)
@@ -50,17 +57,35 @@ fn is_held(rt: &HostRuntime, name: &str) -> io::Result<bool> {
 }
 
 // The report of a file, or why its cases cannot be run.
-fn report(rt: &HostRuntime, name: &str) -> Result<Text, &'static str> {
+fn report<R: Threads + Wait + Sync>(
+    rt: &HostRuntime,
+    threads: &R,
+    name: &str,
+) -> Result<Text, &'static str> {
     let Ok(bytes) = bytes_of(rt, name) else {
         return Err("the file cannot be read");
     };
     let Ok(table) = read_datum(rt.alloc(), bytes.as_slice()) else {
         return Err("no JSON");
     };
-    match report_of(rt.alloc(), name, &table, &Engine::new(rt)) {
+    match report_of_table(rt, threads, name, &table) {
         Ok(report) => Ok(report),
         Err(CaseStop::Form) => Err("not the form of a table of cases"),
         Err(CaseStop::Memory) => Err("out of memory"),
+    }
+}
+
+// The report of a table: by the engine, or of `serve`.
+fn report_of_table<R: Threads + Wait + Sync>(
+    rt: &HostRuntime,
+    threads: &R,
+    name: &str,
+    table: &Datum,
+) -> Result<Text, CaseStop> {
+    if is_of_serve(table) {
+        serve_report_of(rt.alloc(), threads, name, table)
+    } else {
+        report_of(rt.alloc(), name, table, &Engine::new(rt))
     }
 }
 
