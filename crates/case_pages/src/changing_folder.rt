@@ -5,16 +5,16 @@ use std::alloc::Global;
 
 /// A folder whose files are others once they were listed some times, as when somebody changes them. It does not tell what it has.
 #[derive(Drop)]
-pub struct ChangingFolder<F> {
+pub struct ChangingFolder<F, G> {
     first: F,
-    later: F,
+    later: G,
     listings: u64,
     is_changed: bool,
 }
 
-impl<F: Folder> ChangingFolder<F> {
+impl<F: Folder, G: Folder> ChangingFolder<F, G> {
     /// The files of `first` for so many listings, and those of `later` from the next one on.
-    pub fn new(first: F, listings: u64, later: F) -> ChangingFolder<F> {
+    pub fn new(first: F, listings: u64, later: G) -> ChangingFolder<F, G> {
         ChangingFolder {
             first,
             later,
@@ -24,12 +24,12 @@ impl<F: Folder> ChangingFolder<F> {
     }
 }
 
-impl<F: Folder> Folder for ChangingFolder<F> {
+impl<F: Folder, G: Folder> Folder for ChangingFolder<F, G> {
     ghost use Rattle.std.specs.Prelude.{◌+◌, None};
 
     ghost held = { λ _. None };
 
-    ghost faults = { λ f. F.faults f.first + F.faults f.later };
+    ghost faults = { λ f. F.faults f.first + G.faults f.later };
 
     fn list(&mut self, alloc: Global, dir: &str) -> Result<Names, IoStop> {
         if self.listings == 0 {

@@ -156,7 +156,7 @@ fn failing_input(alloc: Global) -> Result<MemSource, CaseStop> {
 }
 
 // A folder whose files may change twice.
-type RowFolder = ChangingFolder<ChangingFolder<MemFolder>>;
+type RowFolder = ChangingFolder<ChangingFolder<MemFolder, MemFolder>, MemFolder>;
 
 // The folder of files. It has other files from the second listing on, and from the third one on, where settings have them.
 fn folder_of(alloc: Global, files: &[Datum], settings: &[Datum]) -> Result<RowFolder, CaseStop> {
