@@ -21,7 +21,7 @@ const LINKS: u32 = 10;
 
 const REQUESTS: u32 = 5_000;
 
-const SETS: u64 = 1_000;
+const SETS: u64 = 20_000;
 
 // A set with one page. One that is made of files has an empty page.
 #[derive(Drop)]
@@ -176,9 +176,6 @@ fn serve_links<J: Named, R: Wait>(rt: &R, alloc: Global, mut viewer: NumberedVie
 fn publish_all<R: Wait>(rt: &R, alloc: Global, desk: &mut NumberedDesk) -> Result<bool, Memory> {
     let mut good = true;
     for number in 2..SETS + 1 {
-        for _ in 0..100 {
-            thread::yield_now();
-        }
         let set = set_of(alloc, number)?;
         good &= desk.publish(alloc, rt, set)?.number() == number;
     }
