@@ -4,8 +4,9 @@ use Rattle.std.specs.Str.{bytes_eq}
 use Rattle.httparse.specs.Spans.{header_bytes, span_bytes}
 use Rattle.httparse.specs.declared.spans.HeaderSpan.{HeaderSpan}
 use Rattle.page_http.specs.Fields.{values, SaysValues, SaysKnown, SoFar}
-use Rattle.page_http.specs.Bodies.{length_by_found, length_by_values, length_found, length_said}
-use Rattle.page_http.specs.Contents.{at_least_said, kind_found, kind_said, least_found}
+use Rattle.page_http.specs.Bodies.{length_by_values, length_said}
+use Rattle.page_http.specs.Contents.{at_least_said, kind_said}
+use Rattle.page_http.specs.Findings.{kind_found, least_found, length_by_found, length_found}
 use Rattle.page_http.specs.declared.fields.Found.{Found}
 use Rattle.page_http.specs.declared.fields.Found.TheVariants as found
 use Rattle.page_http.specs.declared.fields.KnownFields.{KnownFields}

@@ -3,8 +3,6 @@ use Rattle.std.specs.Prelude.{◌≡◌, ◌⊎◌, ⊤, ℕ, Bool, true, false,
 use Rattle.std.specs.Str.{bytes_eq}
 use Rattle.page_http.specs.Fields.{values}
 use Rattle.page_http.specs.Numbers.{number_said}
-use Rattle.page_http.specs.declared.fields.Found.{Found}
-use Rattle.page_http.specs.declared.fields.Found.TheVariants as found
 use Rattle.page_http.specs.declared.number.Number.{Number}
 use Rattle.page_http.specs.declared.number.Number.TheVariants as number
 use Rattle.page_http.specs.declared.body_length.BodyLength.{BodyLength}
@@ -35,18 +33,6 @@ length_said method fields = by_codings (values (codes "transfer-encoding") field
     by_codings [] =
         length_by_values (bytes_eq method (codes "POST")) (values (codes "content-length") fields)
     by_codings (v ∷ more) = body.Refused 501
-
--- the length by what was found of `Content-Length`
-abbrev pub length_by_found : Bool → Found → BodyLength
-length_by_found is_post found.Nothing = length_by_values is_post []
-length_by_found is_post (found.Once v) = length_by_number (number_said max_body v.now)
-length_by_found is_post found.Often = body.Refused 400
-
--- the length by what was found of `Transfer-Encoding` and of `Content-Length`
-abbrev pub length_found : Bool → Found → Found → BodyLength
-length_found is_post found.Nothing lengths = length_by_found is_post lengths
-length_found is_post (found.Once v) lengths = body.Refused 501
-length_found is_post found.Often lengths = body.Refused 501
 
 -- the statuses that refuse a request before it is read
 abbrev pub IsReadStatus : ℕ → Type 0

@@ -2,8 +2,6 @@
 use Rattle.std.specs.Prelude.{ℕ, List, [], ◌∷◌, codes, if◌then◌else◌}
 use Rattle.page_http.specs.Fields.{begins_with_name}
 use Rattle.page_http.specs.Numbers.{number_said}
-use Rattle.page_http.specs.declared.fields.Found.{Found}
-use Rattle.page_http.specs.declared.fields.Found.TheVariants as found
 use Rattle.page_http.specs.declared.number.Number.{Number}
 use Rattle.page_http.specs.declared.number.Number.TheVariants as number
 use Rattle.page_http.specs.declared.request.AtLeast.{AtLeast}
@@ -27,12 +25,6 @@ at_least_said [] = least.Absent
 at_least_said (v ∷ []) = least_by_number (number_said max_number v)
 at_least_said (v ∷ w ∷ more) = least.Bad
 
--- the same by what was found of these values
-abbrev pub least_found : Found → AtLeast
-least_found found.Nothing = least.Absent
-least_found (found.Once v) = least_by_number (number_said max_number v.now)
-least_found found.Often = least.Bad
-
 -- the kind of a body by its media type (RFC 9110, section 8.3.1)
 abbrev pub kind_by_type : List ℕ → BodyKind
 kind_by_type v =
@@ -45,9 +37,3 @@ abbrev pub kind_said : List (List ℕ) → BodyKind
 kind_said [] = kind.Other
 kind_said (v ∷ []) = kind_by_type v
 kind_said (v ∷ w ∷ more) = kind.Other
-
--- the same by what was found of these values
-abbrev pub kind_found : Found → BodyKind
-kind_found found.Nothing = kind.Other
-kind_found (found.Once v) = kind_by_type v.now
-kind_found found.Often = kind.Other

@@ -2,6 +2,7 @@ pub mod Fields
 pub mod Numbers
 pub mod Bodies
 pub mod Contents
+pub mod Findings
 pub mod Closing
 pub mod Requests
 pub mod Laws

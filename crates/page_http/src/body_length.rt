@@ -1,6 +1,7 @@
 ghost use Rattle.std.specs.Prelude.{◌≡◌, [], codes};
 ghost use Rattle.std.specs.Str.{bytes_eq};
-ghost use Rattle.page_http.specs.Bodies.{IsKnownRefusal, length_by_values, length_found};
+ghost use Rattle.page_http.specs.Bodies.{IsKnownRefusal, length_by_values};
+ghost use Rattle.page_http.specs.Findings.{length_found};
 
 use crate::fields::{Found, KnownFields};
 use crate::number::{Number, read_number};

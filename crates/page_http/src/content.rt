@@ -1,5 +1,6 @@
 ghost use Rattle.std.specs.Prelude.{◌≡◌};
-ghost use Rattle.page_http.specs.Contents.{kind_by_type, kind_found, least_found};
+ghost use Rattle.page_http.specs.Contents.{kind_by_type};
+ghost use Rattle.page_http.specs.Findings.{kind_found, least_found};
 
 use crate::fields::{Found, begins_with};
 use crate::number::{Number, read_number};
