@@ -7,11 +7,11 @@ use Rattle.page_http.specs.declared.reply.Reply.{Reply}
 use Rattle.page_http.specs.declared.request.Request.{Request}
 use Rattle.page_http.proofs.Excluding.{whole_more}
 use Rattle.set_publisher.specs.Values.{Watched}
-use Rattle.page_server.specs.Answering.{Answering, AnswersBySet, BeginsWithRequest}
+use Rattle.page_server.specs.Answering.{Answering, AnswersBySet, Paging, BeginsWithRequest}
 use Rattle.page_server.specs.Laws.{NumbersRise, ClosesAtEnd}
 use Rattle.page_server.specs.Sending.{SentReply, number_after, is_last}
 use Rattle.page_server.specs.Serving.{Serves, begun, sent}
-use Rattle.page_server.specs.Sessions.{Session, EndsBy}
+use Rattle.page_server.specs.Sessions.{SessionWith, EndsBy}
 use Rattle.page_server.specs.Waiting.{IsWaiting, StopsReading}
 use Rattle.page_server.specs.declared.end.LinkWhy.TheVariants as why
 use Rattle.page_server.proofs.Lengths.{request_some}
@@ -53,14 +53,15 @@ module _ {V : Type 0} (answers : Answering V) where
   nothing_yet : (first : Watched V) → Serves answers first [] [] [] first true
   nothing_yet first = begun
 
+module _ {T V : Type 0} (paging : Paging T V) (answers : Answering V) where
   -- a link does not end as closed with bytes left, nor as asked to close while it stays open
-  not_closed : (old now : Session V) (replies : List SentReply) (given : List Reply) (seen : Watched V) (stays : Bool) (b : ℕ)
-      (rest : List ℕ) → EndsBy answers old now replies given seen stays (b ∷ rest) why.Closed → ⊥
-  not_closed old now replies given seen stays b rest e = let no : b ∷ rest ≡ [] = e.2.0 in cc
+  not_closed : (old now : SessionWith T V) (replies : List SentReply) (given : List Reply) (seen : Watched V) (kept : T) (stays : Bool)
+      (b : ℕ) (rest : List ℕ) → EndsBy paging answers old now replies given seen kept stays (b ∷ rest) why.Closed → ⊥
+  not_closed old now replies given seen kept stays b rest e = let no : b ∷ rest ≡ [] = e.2.0 in cc
 
-  not_asked : (old now : Session V) (replies : List SentReply) (given : List Reply) (seen : Watched V) (rest : List ℕ)
-      → EndsBy answers old now replies given seen true rest why.Asked → ⊥
-  not_asked old now replies given seen rest e = let no : true ≡ false = e.1 in cc
+  not_asked : (old now : SessionWith T V) (replies : List SentReply) (given : List Reply) (seen : Watched V) (kept : T) (rest : List ℕ)
+      → EndsBy paging answers old now replies given seen kept true rest why.Asked → ⊥
+  not_asked old now replies given seen kept rest e = let no : true ≡ false = e.1 in cc
 
 -- no end but a closing reply leaves a request that was read unanswered
 none_left : (bytes : List ℕ) (r : Request) (used : ℕ) → BeginsWithRequest bytes r used → IsWaiting bytes → ⊥

@@ -1,3 +1,4 @@
+pub mod Counting
 pub mod Examples
 pub mod Given
 pub mod Lengths

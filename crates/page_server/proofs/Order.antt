@@ -12,12 +12,12 @@ use Rattle.page_http.specs.declared.reply.Reply.{Reply}
 use Rattle.page_http.specs.declared.request.Request.{Request}
 use Rattle.page_office.specs.Clerks.{IsReloadRefusal}
 use Rattle.set_publisher.specs.Values.{Watched}
-use Rattle.page_server.specs.Answering.{Answering, AnswersBySet}
-use Rattle.page_server.specs.Laws.{NumbersRise, ClosesAtEnd, RepliesAreInOrder}
+use Rattle.page_server.specs.Answering.{Answering, AnswersBySet, Paging, no_paging}
+use Rattle.page_server.specs.Laws.{NumbersRise, ClosesAtEnd, AreServedInOrder, RepliesAreInOrder}
 use Rattle.page_server.specs.Sending.{SentReply, number_after, is_last}
 use Rattle.page_server.specs.Serving as serving
-use Rattle.page_server.specs.Serving.{Answered, Serves, begun, replied}
-use Rattle.page_server.specs.Sessions.{Session, ServesLink, EndsBy}
+use Rattle.page_server.specs.Serving.{AnsweredWith, ServesWith, begun, replied}
+use Rattle.page_server.specs.Sessions.{SessionWith, ServesLinkWith, EndsBy}
 use Rattle.page_server.specs.declared.end.LinkEnd.{LinkEnd}
 use Rattle.page_server.specs.declared.end.LinkWhy.{LinkWhy}
 use Rattle.page_server.specs.declared.end.LinkWhy.TheVariants as why
@@ -94,42 +94,47 @@ module _ {V : Type 0} (execution : V → Executions) (made_of : V → Files) (me
   set_number set r n reply (inr (inl (asked, e))) = ap (λ (z : Reply). z.number) e
   set_number set r n reply (inr (inr e)) = refused_number (plan_of r n) n reply e
 
+module _ {T V : Type 0} (paging : Paging T V)
+    (execution : V → Executions) (made_of : V → Files) (meant : Files → Meanings) (sound : Files → Promises) where
   -- the number in a reply is one that the viewer has seen by then, and no less than when the piece was read
-  answered_number : (last : Bool) (seen now : Watched V) (piece : List ℕ) (gives : List Reply) (s : SentReply)
-      → IsPrefix seen.sets now.sets → Answered (AnswersBySet execution made_of meant sound) last seen now piece gives s
+  answered_number : (last : Bool) (seen now : Watched V) (kept0 kept : T) (piece : List ℕ) (gives : List Reply) (s : SentReply)
+      → IsPrefix seen.sets now.sets
+      → AnsweredWith paging (AnswersBySet execution made_of meant sound) last seen now kept0 kept piece gives s
       → (length seen.sets ≤ s.reply.number) × (s.reply.number ≤ length now.sets)
-  answered_number last seen now piece gives s grows (serving.by_set r set reply is_request is_seen answers_it same) =
-      let e = set_number set r (length seen.sets) reply answers_it in
+  answered_number last seen now kept0 kept piece gives s grows (serving.by_set r set reply is_request is_seen answers_it same pages) =
+      let e = set_number execution made_of meant sound set r (length seen.sets) reply answers_it in
       (omega (arith, e), omega (arith, e, prefix_length seen.sets now.sets grows))
-  answered_number last seen now piece gives s grows (serving.by_clerk r reply is_request asks (inl e)) =
+  answered_number last seen now kept0 kept piece gives s grows (serving.by_clerk r reply is_request asks (inl e) paged) =
       let n : reply.number ≡ length now.sets = ap (λ (z : Reply). z.number) e in
       (omega (arith, n, prefix_length seen.sets now.sets grows), omega (arith, n))
-  answered_number last seen now piece gives s grows (serving.by_clerk r reply is_request asks (inr (same, e))) =
+  answered_number last seen now kept0 kept piece gives s grows (serving.by_clerk r reply is_request asks (inr (same, e)) paged) =
       let n = reload_number (length seen.sets) reply e in
       (omega (arith, n), omega (arith, n, prefix_length seen.sets now.sets grows))
-  answered_number last seen now piece gives s grows (serving.refused status refuses same) =
+  answered_number last seen now kept0 kept piece gives s grows (serving.refused status refuses same unasked) =
       (omega arith, prefix_length seen.sets now.sets grows)
-  answered_number last seen now piece gives s grows (serving.no_memory some) =
+  answered_number last seen now kept0 kept piece gives s grows (serving.no_memory some paged) =
       (prefix_length seen.sets now.sets grows, omega arith)
-  answered_number last seen now piece gives s grows (serving.no_memory_to_send r reply is_request asks replies) =
+  answered_number last seen now kept0 kept piece gives s grows (serving.no_memory_to_send r reply is_request asks replies paged) =
       (prefix_length seen.sets now.sets grows, omega arith)
 
-  numbers_rise : (first now : Watched V) (replies : List SentReply) (read : List ℕ) (given : List Reply) (stays : Bool)
-      → Serves (AnswersBySet execution made_of meant sound) first replies read given now stays
+  numbers_rise : (first : Watched V) (kept0 : T) (now : Watched V) (kept : T) (replies : List SentReply) (read : List ℕ) (given : List Reply) (stays : Bool)
+      → ServesWith paging (AnswersBySet execution made_of meant sound) first kept0 replies read given now kept stays
       → NumbersRise (length first.sets) replies (length now.sets)
-  numbers_rise first now replies read given stays begun = omega arith
-  numbers_rise first now replies read given stays (replied rs read0 given0 before seen now2 piece gives s so_far looked learnt answered) =
-      let n = answered_number (is_last (length rs)) seen now2 piece gives s learnt.grows answered in
+  numbers_rise first kept0 now kept replies read given stays begun = omega arith
+  numbers_rise first kept0 now kept replies read given stays
+      (replied rs read0 given0 before seen now2 kept1 kept2 piece gives s so_far looked learnt answered) =
+      let n = answered_number (is_last (length rs)) seen now2 kept1 kept2 piece gives s learnt.grows answered in
       rise_push (length first.sets) (length before.sets) (length now2.sets) rs s
-      (numbers_rise first before rs read0 given0 true so_far)
+      (numbers_rise first kept0 before kept1 rs read0 given0 true so_far)
       (omega (arith, n.0, prefix_length before.sets seen.sets looked.grows)) n.1
 
-module _ {V : Type 0} (answers : Answering V) where
-  closes_at_end : (first now : Watched V) (replies : List SentReply) (read : List ℕ) (given : List Reply) (stays : Bool)
-      → Serves answers first replies read given now stays → ClosesAtEnd replies stays
-  closes_at_end first now replies read given stays begun = refl
-  closes_at_end first now replies read given stays (replied rs read0 given0 before seen now2 piece gives s so_far looked learnt answered) =
-      closes_push rs s (closes_at_end first before rs read0 given0 true so_far)
+module _ {T V : Type 0} (paging : Paging T V) (answers : Answering V) where
+  closes_at_end : (first : Watched V) (kept0 : T) (now : Watched V) (kept : T) (replies : List SentReply) (read : List ℕ) (given : List Reply) (stays : Bool)
+      → ServesWith paging answers first kept0 replies read given now kept stays → ClosesAtEnd replies stays
+  closes_at_end first kept0 now kept replies read given stays begun = refl
+  closes_at_end first kept0 now kept replies read given stays
+      (replied rs read0 given0 before seen now2 kept1 kept2 piece gives s so_far looked learnt answered) =
+      closes_push rs s (closes_at_end first kept0 before kept1 rs read0 given0 true so_far)
 
   -- a connection that stays open has had less than the most replies
 
@@ -143,15 +148,17 @@ module _ {V : Type 0} (answers : Answering V) where
   below_push count true false is closes below = let no : false ≡ true = closes refl in cc
   below_push count false false is closes below = below_last count is below
 
-  below : (first now : Watched V) (replies : List SentReply) (read : List ℕ) (given : List Reply) (stays : Bool)
-      → Serves answers first replies read given now stays → IsBelow (length replies) stays
-  below first now replies read given stays begun = omega arith
-  below first now replies read given stays (replied rs read0 given0 before seen now2 piece gives s so_far looked learnt answered) =
+  below : (first : Watched V) (kept0 : T) (now : Watched V) (kept : T) (replies : List SentReply) (read : List ℕ) (given : List Reply) (stays : Bool)
+      → ServesWith paging answers first kept0 replies read given now kept stays → IsBelow (length replies) stays
+  below first kept0 now kept replies read given stays begun = omega arith
+  below first kept0 now kept replies read given stays
+      (replied rs read0 given0 before seen now2 kept1 kept2 piece gives s so_far looked learnt answered) =
       let one : length (rs ++ s ∷ []) ≡ length rs + 1 = length-append rs (s ∷ []) in
       subst (λ (k : ℕ). IsBelow k (not s.close)) (sym one)
       (below_push (length rs) (is_last (length rs)) s.close refl
-      (λ e. last_closes answers seen now2 piece gives s (subst (λ (z : Bool). Answered answers z seen now2 piece gives s) e answered))
-      (below first before rs read0 given0 true so_far))
+      (λ e. last_closes paging answers seen now2 kept1 kept2 piece gives s
+      (subst (λ (z : Bool). AnsweredWith paging answers z seen now2 kept1 kept2 piece gives s) e answered))
+      (below first kept0 before kept1 rs read0 given0 true so_far))
 
   is_most : (count : ℕ) (stays : Bool) → IsBelow count stays → count ≤ 10000
   is_most count true h = omega (arith, h)
@@ -159,50 +166,66 @@ module _ {V : Type 0} (answers : Answering V) where
 
   -- what the viewer has seen grows
 
-  serves_grow : (first now : Watched V) (replies : List SentReply) (read : List ℕ) (given : List Reply) (stays : Bool)
-      → Serves answers first replies read given now stays → IsPrefix first.sets now.sets
-  serves_grow first now replies read given stays begun = prefix_self first.sets
-  serves_grow first now replies read given stays (replied rs read0 given0 before seen now2 piece gives s so_far looked learnt answered) =
-      prefix_twice first.sets before.sets now2.sets (serves_grow first before rs read0 given0 true so_far)
+  serves_grow : (first : Watched V) (kept0 : T) (now : Watched V) (kept : T) (replies : List SentReply) (read : List ℕ) (given : List Reply) (stays : Bool)
+      → ServesWith paging answers first kept0 replies read given now kept stays → IsPrefix first.sets now.sets
+  serves_grow first kept0 now kept replies read given stays begun = prefix_self first.sets
+  serves_grow first kept0 now kept replies read given stays
+      (replied rs read0 given0 before seen now2 kept1 kept2 piece gives s so_far looked learnt answered) =
+      prefix_twice first.sets before.sets now2.sets (serves_grow first kept0 before kept1 rs read0 given0 true so_far)
       (prefix_twice before.sets seen.sets now2.sets looked.grows learnt.grows)
 
-  same_grows : (old now : Session V) (seen : Watched V) → now.viewer ≡ seen → IsPrefix seen.sets now.viewer.sets
+  same_grows : (old now : SessionWith T V) (seen : Watched V) → now.viewer ≡ seen → IsPrefix seen.sets now.viewer.sets
   same_grows old now seen same = subst (λ (z : Watched V). IsPrefix seen.sets z.sets) (sym same) (prefix_self seen.sets)
 
-  ends_grow : (old now : Session V) (replies : List SentReply) (given : List Reply) (seen : Watched V) (stays : Bool) (rest : List ℕ)
-      (w : LinkWhy) → EndsBy answers old now replies given seen stays rest w → IsPrefix seen.sets now.viewer.sets
-  ends_grow old now replies given seen stays rest why.Closed e = same_grows old now seen e.0.viewer
-  ends_grow old now replies given seen stays rest why.CutRequest e = same_grows old now seen e.0.viewer
-  ends_grow old now replies given seen stays rest why.Asked e = same_grows old now seen e.0.viewer
-  ends_grow old now replies given seen stays rest why.Full e = same_grows old now seen e.0.viewer
-  ends_grow old now replies given seen stays rest why.Memory e = same_grows old now seen e.0.viewer
-  ends_grow old now replies given seen stays rest why.LinkFault (open_is, inl (settled, stops)) = same_grows old now seen settled.viewer
-  ends_grow old now replies given seen stays rest why.LinkFault (open_is, inr cut) =
+  ends_grow : (old now : SessionWith T V) (replies : List SentReply) (given : List Reply) (seen : Watched V) (kept : T) (stays : Bool)
+      (rest : List ℕ) (w : LinkWhy) → EndsBy paging answers old now replies given seen kept stays rest w
+      → IsPrefix seen.sets now.viewer.sets
+  ends_grow old now replies given seen kept stays rest why.Closed e = same_grows old now seen e.0.viewer
+  ends_grow old now replies given seen kept stays rest why.CutRequest e = same_grows old now seen e.0.viewer
+  ends_grow old now replies given seen kept stays rest why.Asked e = same_grows old now seen e.0.viewer
+  ends_grow old now replies given seen kept stays rest why.Full e = same_grows old now seen e.0.viewer
+  ends_grow old now replies given seen kept stays rest why.Memory e = same_grows old now seen e.0.viewer
+  ends_grow old now replies given seen kept stays rest why.LinkFault (open_is, inl (settled, stops)) =
+      same_grows old now seen settled.viewer
+  ends_grow old now replies given seen kept stays rest why.LinkFault (open_is, inr cut) =
       prefix_twice seen.sets cut.seen.sets now.viewer.sets cut.looked.grows cut.learnt.grows
 
-  pub link_grows : (old now : Session V) (end : LinkEnd) → ServesLink answers old now end → IsPrefix old.viewer.sets now.viewer.sets
+  pub link_grows : (old now : SessionWith T V) (end : LinkEnd) → ServesLinkWith paging answers old now end
+      → IsPrefix old.viewer.sets now.viewer.sets
   link_grows old now end s =
       prefix_twice old.viewer.sets s.seen.sets now.viewer.sets
-      (serves_grow old.viewer s.seen s.replies s.read s.given s.stays s.serves)
-      (ends_grow old now s.replies s.given s.seen s.stays s.rest end.why s.ends)
+      (serves_grow old.viewer old.pager s.seen s.kept s.replies s.read s.given s.stays s.serves)
+      (ends_grow old now s.replies s.given s.seen s.kept s.stays s.rest end.why s.ends)
 
-module _ {V : Type 0} (execution : V → Executions) (made_of : V → Files) (meant : Files → Meanings) (sound : Files → Promises) where
-  pub in_order : RepliesAreInOrder execution made_of meant sound
-  in_order first now replies read given stays s = record {
-    numbers = numbers_rise execution made_of meant sound first now replies read given stays s;
-    closing = closes_at_end (AnswersBySet execution made_of meant sound) first now replies read given stays s;
+module _ {T V : Type 0} (paging : Paging T V)
+    (execution : V → Executions) (made_of : V → Files) (meant : Files → Meanings) (sound : Files → Promises) where
+  pub served_in_order : (first now : Watched V) (kept0 kept : T) (replies : List SentReply) (read : List ℕ) (given : List Reply)
+      (stays : Bool)
+      → ServesWith paging (AnswersBySet execution made_of meant sound) first kept0 replies read given now kept stays
+      → AreServedInOrder first now replies stays
+  served_in_order first now kept0 kept replies read given stays s = record {
+    numbers = numbers_rise paging execution made_of meant sound first kept0 now kept replies read given stays s;
+    closing = closes_at_end paging (AnswersBySet execution made_of meant sound) first kept0 now kept replies read given stays s;
     most =
-        is_most (AnswersBySet execution made_of meant sound) (length replies) stays
-        (below (AnswersBySet execution made_of meant sound) first now replies read given stays s);
+        is_most paging (AnswersBySet execution made_of meant sound) (length replies) stays
+        (below paging (AnswersBySet execution made_of meant sound) first kept0 now kept replies read given stays s);
   }
 
   -- the last number on a link is one that its viewer has seen, and no less than what it had seen
-  pub link_last : (old now : Session V) (end : LinkEnd) → ServesLink (AnswersBySet execution made_of meant sound) old now end
+  pub link_last : (old now : SessionWith T V) (end : LinkEnd)
+      → ServesLinkWith paging (AnswersBySet execution made_of meant sound) old now end
       → 0 < end.requests → (length old.viewer.sets ≤ end.last) × (end.last ≤ length now.viewer.sets)
   link_last old now end s some =
-      let rise = numbers_rise execution made_of meant sound old.viewer s.seen s.replies s.read s.given s.stays s.serves in
+      let rise =
+      numbers_rise paging execution made_of meant sound old.viewer old.pager s.seen s.kept s.replies s.read s.given s.stays s.serves in
       let l = rise_last 0 (length old.viewer.sets) (length s.seen.sets) s.replies rise (omega (arith, some, s.requests)) in
       let later =
       prefix_length s.seen.sets now.viewer.sets
-      (ends_grow (AnswersBySet execution made_of meant sound) old now s.replies s.given s.seen s.stays s.rest end.why s.ends) in
+      (ends_grow paging (AnswersBySet execution made_of meant sound) old now s.replies s.given s.seen s.kept s.stays s.rest end.why
+      s.ends) in
       (omega (arith, l.0, s.last), omega (arith, l.1, s.last, later))
+
+module _ {V : Type 0} (execution : V → Executions) (made_of : V → Files) (meant : Files → Meanings) (sound : Files → Promises) where
+  pub in_order : RepliesAreInOrder execution made_of meant sound
+  in_order first now replies read given stays s =
+      served_in_order no_paging execution made_of meant sound first now tt tt replies read given stays s

@@ -9,6 +9,7 @@ mod incoming;
 mod laws;
 mod link_room;
 mod outgoing;
+mod pager;
 mod respond;
 mod send;
 mod serve;

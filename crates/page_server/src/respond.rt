@@ -10,6 +10,7 @@ ghost use Rattle.page_server.specs.Waiting.{IsIncoming};
 use crate::answer::answer;
 use crate::incoming::Incoming;
 use crate::outgoing::Outgoing;
+use crate::pager::Pager;
 use page_datum::Pages;
 use page_http::{Request, Routes, phrase_reply};
 use page_io::Memory;
@@ -20,32 +21,43 @@ use std::sync::Wait;
 
 /// Looks once for the newest set, and makes what goes out to the first of the bytes. It may wait,
 /// for the clerk.
-pub(crate) fn respond<P: Pages + Drop, S: Notice<P>, J: Named, C: Clerk<P, S, J>, R: Wait>(
+pub(crate) fn respond<
+    P: Pages + Drop,
+    S: Notice<P>,
+    J: Named,
+    C: Clerk<P, S, J>,
+    G: Pager<P>,
+    R: Wait,
+>(
     alloc: Global,
     rt: &R,
     routes: Option<&Routes>,
     viewer: &mut Viewer<P, S>,
     clerk: &mut C,
+    pager: &mut G,
     bytes: &[u8],
     incoming: &Incoming,
     last: bool,
 ) -> Outgoing
     requires desk { viewer.old.book ≡ J.desk }
     requires incoming { IsIncoming bytes.now incoming.now }
-    ensures responds { LooksAndResponds
+    requires stands { G.stands (G.state pager.old) viewer.old.sets }
+    ensures responds { LooksAndResponds G.pages
         (AnswersBySet P.execution P.made_of P.is_execution P.is_sound) last
-        viewer.old viewer.new (C.given clerk.old) (C.given clerk.new) bytes.now result }
+        viewer.old viewer.new (G.state pager.old) (G.state pager.new)
+        (C.given clerk.old) (C.given clerk.new) bytes.now result }
+    ensures stands { G.stands (G.state pager.new) viewer.new.sets }
     ensures sendable { IfOk result.reply IsSendable }
 {
     let number = viewer.current();
     match incoming {
         Incoming::Request(request, used) => {
             to_request(
-                alloc, rt, routes, viewer, clerk, bytes, request, *used, last, number,
+                alloc, rt, routes, viewer, clerk, pager, bytes, request, *used, last, number,
             )
         }
-        Incoming::Refused(status) => to_refused(alloc, viewer, bytes, *status),
-        Incoming::NoMemory => to_unread(viewer, bytes),
+        Incoming::Refused(status) => to_refused::<P, S, G>(alloc, viewer, bytes, *status),
+        Incoming::NoMemory => to_unread::<P, S, G>(viewer, bytes),
     }
 }
 
@@ -57,12 +69,13 @@ fn closes(request: &Request, last: bool) -> bool
 }
 
 // What goes out to a request, which the first `used` of the bytes are.
-fn to_request<P: Pages + Drop, S: Notice<P>, J: Named, C: Clerk<P, S, J>, R: Wait>(
+fn to_request<P: Pages + Drop, S: Notice<P>, J: Named, C: Clerk<P, S, J>, G: Pager<P>, R: Wait>(
     alloc: Global,
     rt: &R,
     routes: Option<&Routes>,
     viewer: &mut Viewer<P, S>,
     clerk: &mut C,
+    pager: &mut G,
     bytes: &[u8],
     request: &Request,
     used: usize,
@@ -72,12 +85,15 @@ fn to_request<P: Pages + Drop, S: Notice<P>, J: Named, C: Clerk<P, S, J>, R: Wai
     requires desk { viewer.old.book ≡ J.desk }
     requires whole { BeginsWithRequest bytes.now request.now used }
     requires number { number ≡ length viewer.old.sets }
-    ensures responds { Responds
+    requires stands { G.stands (G.state pager.old) viewer.old.sets }
+    ensures responds { Responds G.pages
         (AnswersBySet P.execution P.made_of P.is_execution P.is_sound) last
-        viewer.old viewer.new (C.given clerk.old) (C.given clerk.new) bytes.now result }
+        viewer.old viewer.new (G.state pager.old) (G.state pager.new)
+        (C.given clerk.old) (C.given clerk.new) bytes.now result }
+    ensures stands { G.stands (G.state pager.new) viewer.new.sets }
     ensures sendable { IfOk result.reply IsSendable }
 {
-    let reply = answer(alloc, rt, routes, viewer, clerk, request, number);
+    let reply = answer(alloc, rt, routes, viewer, clerk, pager, request, number);
     Outgoing {
         reply,
         close: closes(request, last),
@@ -87,7 +103,7 @@ fn to_request<P: Pages + Drop, S: Notice<P>, J: Named, C: Clerk<P, S, J>, R: Wai
 }
 
 // What goes out to bytes that are refused.
-fn to_refused<P: Pages + Drop, S: Notice<P>>(
+fn to_refused<P: Pages + Drop, S: Notice<P>, G: Pager<P>>(
     alloc: Global,
     viewer: &Viewer<P, S>,
     bytes: &[u8],
@@ -96,9 +112,9 @@ fn to_refused<P: Pages + Drop, S: Notice<P>>(
     requires refuses { Refuses bytes.now status }
     requires status { IsReadStatus status }
     requires some { bytes.now ≢ [] }
-    ensures responds { (last : Bool) (given : Option (List Reply)) → Responds
+    ensures responds { (last : Bool) (kept : G.State) (given : Option (List Reply)) → Responds G.pages
         (AnswersBySet P.execution P.made_of P.is_execution P.is_sound) last
-        viewer.now viewer.now given given bytes.now result }
+        viewer.now viewer.now kept kept given given bytes.now result }
     ensures sendable { IfOk result.reply IsSendable }
 {
     let number = viewer.number();
@@ -111,11 +127,14 @@ fn to_refused<P: Pages + Drop, S: Notice<P>>(
 }
 
 // What goes out to bytes that were not read, since memory ran out.
-fn to_unread<P: Pages + Drop, S: Notice<P>>(viewer: &Viewer<P, S>, bytes: &[u8]) -> Outgoing
+fn to_unread<P: Pages + Drop, S: Notice<P>, G: Pager<P>>(
+    viewer: &Viewer<P, S>,
+    bytes: &[u8],
+) -> Outgoing
     requires { bytes.now ≢ [] }
-    ensures responds { (last : Bool) (given : Option (List Reply)) → Responds
+    ensures responds { (last : Bool) (kept : G.State) (given : Option (List Reply)) → Responds G.pages
         (AnswersBySet P.execution P.made_of P.is_execution P.is_sound) last
-        viewer.now viewer.now given given bytes.now result }
+        viewer.now viewer.now kept kept given given bytes.now result }
     ensures sendable { IfOk result.reply IsSendable }
 {
     Outgoing {

@@ -4,7 +4,7 @@ ghost use Rattle.page_io.specs.Causes.{Rose};
 ghost use Rattle.page_server.specs.Answering.{AnswersBySet};
 ghost use Rattle.page_server.specs.Held.{held_in};
 ghost use Rattle.page_server.specs.Sending as spec;
-ghost use Rattle.page_server.specs.Sessions.{ServesLink, session};
+ghost use Rattle.page_server.specs.Sessions.{ServesLink, ServesLinkWith, session, session_with};
 ghost use Rattle.page_server.specs.Turns.{TurnAnswers};
 ghost use Rattle.page_server.specs.declared.end.LinkWhy.TheVariants as why;
 ghost use Rattle.page_server.specs.declared.turn.Turn.TheVariants as turn;
@@ -13,6 +13,7 @@ use crate::buffer::Buffer;
 use crate::end::{LinkEnd, LinkWhy};
 use crate::incoming::read_incoming;
 use crate::link_room::LinkRoom;
+use crate::pager::{Pager, PlainPager};
 use crate::respond::respond;
 use crate::send::send;
 use crate::turn::Turn;
@@ -54,23 +55,36 @@ fn closed(requests: u32, number: u64) -> LinkEnd
 }
 
 // Reads one request and answers it.
-fn serve_one<P: Pages + Drop, S: Notice<P>, J: Named, C: Clerk<P, S, J>, L: Link, R: Wait>(
+fn serve_one<
+    P: Pages + Drop,
+    S: Notice<P>,
+    J: Named,
+    C: Clerk<P, S, J>,
+    G: Pager<P>,
+    L: Link,
+    R: Wait,
+>(
     alloc: Global,
     rt: &R,
     routes: Option<&Routes>,
     viewer: &mut Viewer<P, S>,
     clerk: &mut C,
+    pager: &mut G,
     link: &mut L,
     buffer: &mut Buffer,
     last: bool,
 ) -> Turn
-    requires { viewer.old.book ≡ J.desk }
-    ensures turn { TurnAnswers
+    requires desk { viewer.old.book ≡ J.desk }
+    requires stands { G.stands (G.state pager.old) viewer.old.sets }
+    ensures turn { TurnAnswers G.pages
         (AnswersBySet P.execution P.made_of P.is_execution P.is_sound) last
-        (session (L.left link.old) (L.taken link.old) (C.given clerk.old) viewer.old)
-        (session (L.left link.new) (L.taken link.new) (C.given clerk.new) viewer.new)
+        (session_with (L.left link.old) (L.taken link.old) (C.given clerk.old) viewer.old
+        (G.state pager.old))
+        (session_with (L.left link.new) (L.taken link.new) (C.given clerk.new) viewer.new
+        (G.state pager.new))
         (held_in buffer.old) (held_in buffer.new) result }
     ensures desk { viewer.new.book ≡ viewer.old.book }
+    ensures stands { G.stands (G.state pager.new) viewer.new.sets }
     ensures later { L.faults link.old ≤ L.faults link.new }
     ensures cause { result ≡ turn.Stopped why.LinkFault
         → Rose (L.faults link.old) (L.faults link.new) }
@@ -78,27 +92,44 @@ fn serve_one<P: Pages + Drop, S: Notice<P>, J: Named, C: Clerk<P, S, J>, L: Link
     match read_incoming(alloc, link, buffer) {
         Ok(incoming) => {
             let bytes = buffer.as_slice();
-            let out = respond(alloc, rt, routes, viewer, clerk, bytes, &incoming, last);
+            let out = respond(
+                alloc, rt, routes, viewer, clerk, pager, bytes, &incoming, last,
+            );
             send(alloc, link, buffer, &out)
         }
         Err(why) => Turn::Stopped(why),
     }
 }
 
-// Serves a link, but for what follows of what is promised of it.
-fn serve_all<P: Pages + Drop, S: Notice<P>, J: Named, C: Clerk<P, S, J>, L: Link, R: Wait>(
+/// Serves a link with a pager, as `serve_link` serves it with one that keeps nothing. What it keeps
+/// has to stand where the viewer has seen what it has, and stands so afterwards.
+pub(crate) fn serve_with<
+    P: Pages + Drop,
+    S: Notice<P>,
+    J: Named,
+    C: Clerk<P, S, J>,
+    G: Pager<P>,
+    L: Link,
+    R: Wait,
+>(
     alloc: Global,
     rt: &R,
     viewer: &mut Viewer<P, S>,
     clerk: &mut C,
+    pager: &mut G,
     link: &mut L,
     room: &mut LinkRoom,
 ) -> LinkEnd
-    requires { viewer.old.book ≡ J.desk }
-    ensures serves { ServesLink (AnswersBySet P.execution P.made_of P.is_execution P.is_sound)
-        (session (L.left link.old) (L.taken link.old) (C.given clerk.old) viewer.old)
-        (session (L.left link.new) (L.taken link.new) (C.given clerk.new) viewer.new) result }
+    requires desk { viewer.old.book ≡ J.desk }
+    requires stands { G.stands (G.state pager.old) viewer.old.sets }
+    ensures serves { ServesLinkWith G.pages
+        (AnswersBySet P.execution P.made_of P.is_execution P.is_sound)
+        (session_with (L.left link.old) (L.taken link.old) (C.given clerk.old) viewer.old
+        (G.state pager.old))
+        (session_with (L.left link.new) (L.taken link.new) (C.given clerk.new) viewer.new
+        (G.state pager.new)) result }
     ensures desk { viewer.new.book ≡ viewer.old.book }
+    ensures stands { G.stands (G.state pager.new) viewer.new.sets }
     ensures later { L.faults link.old ≤ L.faults link.new }
     ensures cause { result.why ≡ why.LinkFault → Rose (L.faults link.old) (L.faults link.new) }
 {
@@ -112,6 +143,7 @@ fn serve_all<P: Pages + Drop, S: Notice<P>, J: Named, C: Clerk<P, S, J>, L: Link
             room.routes.as_ref(),
             viewer,
             clerk,
+            pager,
             link,
             &mut room.buffer,
             is_last(requests),
@@ -160,5 +192,5 @@ pub fn serve_link<P: Pages + Drop, S: Notice<P>, J: Named, C: Clerk<P, S, J>, L:
     ensures later { L.faults link.old ≤ L.faults link.new }
     ensures cause { result.why ≡ why.LinkFault → Rose (L.faults link.old) (L.faults link.new) }
 {
-    serve_all(alloc, rt, viewer, clerk, link, room)
+    serve_with(alloc, rt, viewer, clerk, &mut PlainPager, link, room)
 }

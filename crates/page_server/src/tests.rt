@@ -1,6 +1,8 @@
 ghost use Rattle.std.specs.Prelude.{◌≡◌, ◌++◌, OnOk};
 ghost use Rattle.page_datum.specs.Lines.{HasPrefix};
 
+mod counting;
+
 use crate::end::{LinkEnd, LinkWhy};
 use crate::link_room::LinkRoom;
 use crate::serve::serve_link;
