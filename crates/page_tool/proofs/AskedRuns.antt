@@ -12,11 +12,12 @@ use Rattle.page_tool.specs.Devices.{Devices}
 use Rattle.page_tool.specs.Explaining.{ExplainCause}
 use Rattle.page_datum.specs.TemplateFiles.{files_of}
 use Rattle.page_tool.specs.LoadedSets.{IsRefusedFor}
+use Rattle.page_tool.specs.Listing.{TokensCause}
 use Rattle.page_tool.specs.Making.{IsMadeRefused, MakeCause}
 use Rattle.page_tool.specs.Output.{StatusCause}
 use Rattle.page_tool.specs.Runs.{Runs}
 use Rattle.page_tool.specs.Sections.{made_files}
-use Rattle.page_tool.specs.Words.{Command, no_command, check, render, explain, make, is_command}
+use Rattle.page_tool.specs.Words.{Command, no_command, check, render, explain, tokens, make, is_command}
 use Rattle.page_tool.specs.declared.asked.Asked.{Asked}
 use Rattle.page_tool.specs.declared.asked.Asked.TheVariants as asked
 use Rattle.page_tool.specs.declared.status.Status.{Status}
@@ -26,6 +27,7 @@ asked_is : (a : Asked) → is_command (command_asked a) ≡ true
 asked_is (asked.Check dir) = refl
 asked_is (asked.Render dir root) = refl
 asked_is (asked.Explain dir root) = refl
+asked_is asked.Tokens = refl
 asked_is (asked.Make sections) = refl
 
 -- a command does not end as words that are none
@@ -34,6 +36,7 @@ no_usage no_command before after s is r e = absurd (true≢false (sym is))
 no_usage (check dir) before after s is r e = subst (λ (x : Status). CheckCause before.held dir x) e r.cause
 no_usage (render dir root) before after s is r e = subst (λ (x : Status). StatusCause before.held before.left dir root x) e r.cause
 no_usage (explain dir root) before after s is r e = subst (λ (x : Status). ExplainCause before.held dir root x) e r.cause
+no_usage tokens before after s is r e = subst (λ (x : Status). TokensCause before.left x) e r.cause
 no_usage (make sections) before after s is r e = subst (λ (x : Status). MakeCause sections x) e r.cause
 
 pub asked_usage : (a : Asked) (known : Command) (before after : Devices) (s : Status) → command_asked a ≡ known → Runs (command_asked a) before after s
@@ -60,6 +63,7 @@ needs_error no_command before after s r e = tt
 needs_error (check dir) before after s r e = refused_for before.held dir (subst (λ (x : Status). CheckCause before.held dir x) e r.cause)
 needs_error (render dir root) before after s r e = refused_for before.held dir (subst (λ (x : Status). StatusCause before.held before.left dir root x) e r.cause)
 needs_error (explain dir root) before after s r e = refused_for before.held dir (subst (λ (x : Status). ExplainCause before.held dir root x) e r.cause)
+needs_error tokens before after s r e = tt
 needs_error (make sections) before after s r e = made_refused sections (subst (λ (x : Status). MakeCause sections x) e r.cause)
 
 pub asked_needs : (a : Asked) (known : Command) (before after : Devices) (s : Status) → command_asked a ≡ known → Runs (command_asked a) before after s → s ≡ status.SetRefused → CommandNeedsCause known before.held

@@ -7,13 +7,14 @@ use Rattle.page_tool.specs.Command.{Lines}
 use Rattle.page_tool.specs.Devices.{Devices}
 use Rattle.page_tool.specs.Lines.{stop_text}
 use Rattle.page_tool.specs.Runs.{Runs, SaysLines}
-use Rattle.page_tool.specs.Words.{Command, no_command, check, render, explain, make, is_command}
+use Rattle.page_tool.specs.Words.{Command, no_command, check, render, explain, tokens, make, is_command}
 use Rattle.page_tool.specs.declared.status.Status.TheVariants as status
 use Rattle.page_tool.specs.declared.stop.CommandStop.TheVariants as stop
 use Rattle.page_tool.proofs.CheckStatuses.{check_exact}
 use Rattle.page_tool.proofs.Exacts.{exact}
 use Rattle.page_tool.proofs.ExplainStatuses.{explain_exact}
 use Rattle.page_tool.proofs.MakeStatuses.{make_exact}
+use Rattle.page_tool.proofs.TokensStatuses.{tokens_exact}
 
 memory_read : {A : Type 0} → status.Memory ≡ status.ReadFault → A
 memory_read e = absurd (parted e)
@@ -89,6 +90,21 @@ ran_out (explain dir root) before said faults is more m = record {
   write = memory_write;
   exact = explain_exact _ _ _ _ _ _ tt memory_read memory_write;
   lines = lines (explain dir root) before said faults refl m;
+  kept = refl;
+  folder_later = omega arith;
+  input_later = omega arith;
+  output_later = omega arith;
+  people_later = more;
+}
+ran_out tokens before said faults is more m = record {
+  output = refl;
+  end = memory_ok;
+  in_order = refl;
+  cause = tt;
+  read = memory_read;
+  write = memory_write;
+  exact = tokens_exact _ _ _ _ tt memory_read memory_write;
+  lines = lines tokens before said faults refl m;
   kept = refl;
   folder_later = omega arith;
   input_later = omega arith;

@@ -17,7 +17,7 @@ use Rattle.page_tool.specs.Making.{IsMadeSetOf, MakeCause}
 use Rattle.page_tool.specs.Output.{StatusCause}
 use Rattle.page_tool.specs.Runs.{Runs}
 use Rattle.page_tool.specs.Sections.{made_files}
-use Rattle.page_tool.specs.Words.{Command, no_command, check, render, explain, make}
+use Rattle.page_tool.specs.Words.{Command, no_command, check, render, explain, tokens, make}
 use Rattle.page_tool.specs.declared.asked.Asked.{Asked}
 use Rattle.page_tool.specs.declared.status.Status.{Status}
 use Rattle.page_tool.specs.declared.status.Status.TheVariants as status
@@ -123,6 +123,7 @@ error_free no_command before after s r a = tt
 error_free (check dir) before after s r a = check_free before.held dir s a r.cause
 error_free (render dir root) before after s r a = render_free before.held before.left dir root s a r.cause
 error_free (explain dir root) before after s r a = explain_free before.held dir root s a r.cause
+error_free tokens before after s r a = tt
 error_free (make sections) before after s r a = make_free sections s a r.cause
 
 pub asked_free : (a : Asked) (known : Command) (before after : Devices) (s : Status) → command_asked a ≡ known → Runs (command_asked a) before after s → IsTrue (is_accepted s) → CommandHasNoError known before.held

@@ -16,3 +16,4 @@ pub mod ServeExamples
 pub mod ServeRuns
 pub mod SetLaws
 pub mod Statuses
+pub mod TokensStatuses

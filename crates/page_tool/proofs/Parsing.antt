@@ -10,8 +10,8 @@ use Rattle.clap.specs.Takes.{takes}
 use Rattle.clap.specs.Walk.{Text}
 use Rattle.clap.proofs.OnLiterals.{clap_on_literals}
 use Rattle.page_tool.specs.Program.{command_in, program_app}
-use Rattle.page_tool.specs.Words.{Command, no_command, check, render, explain, making, sections_in, is_command, is_option}
-use Rattle.page_tool.specs.Words.{command_by, command_making, command_at, command_of}
+use Rattle.page_tool.specs.Words.{Command, no_command, check, render, explain, tokens, making, sections_in, is_command, is_option}
+use Rattle.page_tool.specs.Words.{command_alone, command_by, command_making, command_at, command_of}
 
 -- a word that `clap` reads as a value
 record IsPlain (word : Text) : Type 0 where
@@ -58,6 +58,14 @@ explain_read : (dir root : Text) → IsPlain dir → IsPlain root
 unfolding clap_on_literals
 explain_read dir root d r = rw (d.dashes, d.long, d.short, r.dashes, r.long, r.short) refl
 
+tokens_taken : takes program_app (codes "tokens" ∷ []) ≡ true
+unfolding clap_on_literals
+tokens_taken = refl
+
+tokens_read : command_in (subcommand_of program_app (codes "tokens" ∷ [])) ≡ tokens
+unfolding clap_on_literals
+tokens_read = refl
+
 make_taken : (word : Text) → IsPlain word → takes program_app (codes "make" ∷ word ∷ []) ≡ true
 unfolding clap_on_literals
 make_taken word d = rw (d.dashes, d.long, d.short) refl
@@ -69,6 +77,11 @@ make_read word d = rw (d.dashes, d.long, d.short) refl
 -- a name is this word
 pub named : (name word : Text) → bytes_eq name word ≡ true → name ≡ word
 named name word e = (bytes_eq-Decides name word).0 e
+
+on_tokens : (name : Text) (b : Bool) → bytes_eq name (codes "tokens") ≡ b → is_command (cond b tokens no_command) ≡ true
+    → IsRead (name ∷ []) (cond b tokens no_command)
+on_tokens name true e is = rw (named name _ e) (record { taken = tokens_taken; read = tokens_read })
+on_tokens name false e is = absurd (true≢false (sym is))
 
 on_make : (name word : Text) (b : Bool) → bytes_eq name (codes "make") ≡ b → IsPlain word
     → is_command (cond b (making (sections_in word)) no_command) ≡ true
@@ -110,7 +123,7 @@ two_words name dir root false false e f is = at_root name dir root (bytes_eq nam
 -- words that are a command are read so
 command_read : (words : List Text) → is_command (command_of words) ≡ true → IsRead words (command_of words)
 command_read [] is = absurd (true≢false (sym is))
-command_read (name ∷ []) is = absurd (true≢false (sym is))
+command_read (name ∷ []) is = on_tokens name (bytes_eq name (codes "tokens")) refl is
 command_read (name ∷ word ∷ []) is = one_word name word (is_option word) refl is
 command_read (name ∷ dir ∷ root ∷ []) is = two_words name dir root (is_option dir) (is_option root) refl refl is
 command_read (name ∷ dir ∷ root ∷ more ∷ rest) is = absurd (true≢false (sym is))

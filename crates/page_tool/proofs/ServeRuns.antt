@@ -11,13 +11,16 @@ use Rattle.page_tool.specs.Lines.{usage_text}
 use Rattle.page_tool.specs.Runs.{Runs, SaysLines}
 use Rattle.page_tool.specs.ServeStatuses.{ServeStatusCause}
 use Rattle.page_tool.specs.ServeWords.{Service, begins_serve, service_of}
-use Rattle.page_tool.specs.Words.{Command, command_at, command_by, command_of, is_option, no_command}
+use Rattle.page_tool.specs.Words.{Command, command_alone, command_at, command_by, command_of, is_option, no_command}
 use Rattle.page_tool.specs.declared.status.Status.{Status}
 use Rattle.page_tool.specs.declared.status.Status.TheVariants as status
 
 neither : (b : Bool) → cond b no_command no_command ≡ no_command
 neither true = refl
 neither false = refl
+
+none_alone : (name : List ℕ) → name ≡ codes "serve" → command_alone name ≡ no_command
+none_alone name is = rw is refl
 
 one : (name word : List ℕ) → name ≡ codes "serve" → cond (is_option word) no_command (command_by name word) ≡ no_command
 one name word is = rw is (neither (is_option word))
@@ -27,7 +30,7 @@ two name dir root is = rw is (neither (is_option dir || is_option root))
 
 pub no_other : (words : List (List ℕ)) → begins_serve words ≡ true → command_of words ≡ no_command
 no_other [] b = refl
-no_other (name ∷ []) b = refl
+no_other (name ∷ []) b = none_alone name (named name (codes "serve") b)
 no_other (name ∷ word ∷ []) b = one name word (named name (codes "serve") b)
 no_other (name ∷ dir ∷ root ∷ []) b = two name dir root (named name (codes "serve") b)
 no_other (name ∷ dir ∷ root ∷ more ∷ rest) b = refl

@@ -1,6 +1,6 @@
 -- How reading the words of a command line answers.
 use Rattle.std.specs.Prelude.{◌≡◌, true, Option, Some, None, Result, Ok, Err}
-use Rattle.page_tool.specs.Words.{Command, no_command, check, render, explain, make, is_command}
+use Rattle.page_tool.specs.Words.{Command, no_command, check, render, explain, tokens, make, is_command}
 use Rattle.page_tool.specs.declared.asked.Asked.{Asked}
 use Rattle.page_tool.specs.declared.asked.Asked.TheVariants as asked
 use Rattle.page_tool.specs.declared.asked.WordsRefused.{WordsRefused}
@@ -11,6 +11,7 @@ abbrev pub command_asked : Asked → Command
 command_asked (asked.Check dir) = check dir.now
 command_asked (asked.Render dir root) = render dir.now root.now
 command_asked (asked.Explain dir root) = explain dir.now root.now
+command_asked asked.Tokens = tokens
 command_asked (asked.Make sections) = make sections
 
 abbrev pub command_asked_or_none : Option Asked → Command

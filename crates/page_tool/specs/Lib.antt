@@ -7,6 +7,7 @@ pub mod Exact
 pub mod Explaining
 pub mod Input
 pub mod Lines
+pub mod Listing
 pub mod LoadedSets
 pub mod Making
 pub mod Output

@@ -22,7 +22,7 @@ use Rattle.page_tool.specs.declared.stop.CommandStop.TheVariants as stop
 abbrev pub usage_text : List ℕ
 usage_text =
     codes "usage: check DIR | render DIR NAME | explain DIR NAME" ++ (codes " | serve DIR ADDR --workers N [--links K]"
-    ++ (codes " | make N" ++ 10 ∷ []))
+    ++ (codes " | tokens | make N" ++ 10 ∷ []))
 
 -- the line of an input that is refused
 abbrev pub data_text : DataRefused → List ℕ

@@ -2,7 +2,7 @@
 use Rattle.std.specs.Prelude.{codes, List, [], Option, Some, None, true}
 use Rattle.clap.specs.Simple.{App, Shape, new_app, new_rule, new_shape, with_rule, with_subcommand}
 use Rattle.clap.specs.Walk.{Row, Rule, Text, first_of}
-use Rattle.page_tool.specs.Words.{Command, no_command, command_on, command_making, command_at}
+use Rattle.page_tool.specs.Words.{Command, no_command, command_alone, command_on, command_making, command_at}
 
 -- a word that a command must have
 abbrev pub word_rule : Text → Rule
@@ -41,13 +41,16 @@ directories_app =
 
 -- the program
 abbrev pub program_app : App
-program_app = with_subcommand directories_app (sections_app (codes "make")).top
+program_app =
+    with_subcommand (with_subcommand directories_app (new_app (codes "tokens")).top)
+    (sections_app (codes "make")).top
 
 -- the command of this name, with the values of `DIR` or `N`, and of `NAME`
 abbrev pub command_with : Text → Option Text → Option Text → Option Text → Command
 command_with name (Some dir) None None = command_on name dir
 command_with name (Some dir) None (Some root) = command_at name dir root
 command_with name None (Some number) None = command_making name number
+command_with name None None None = command_alone name
 command_with name _ _ _ = no_command
 
 -- the command that the matches of a subcommand are

@@ -7,13 +7,14 @@ use Rattle.std.specs.declared.alloc.Global.{Global}
 abbrev pub texts : List (String Global) → List (List ℕ)
 texts words = map (λ word. string_bytes word) words
 
--- the commands: words that are none, each command with its directory and the name of its root, and
--- `make` with the number of sections
+-- the commands: words that are none, each command with its directory and the name of its root,
+-- `tokens`, and `make` with the number of sections
 pub data Command : Type 0 where
   no_command : Command
   check : List ℕ → Command
   render : List ℕ → List ℕ → Command
   explain : List ℕ → List ℕ → Command
+  tokens : Command
   make : ℕ → Command
 
 -- words that are a command
@@ -57,6 +58,10 @@ abbrev pub making : Option ℕ → Command
 making None = no_command
 making (Some sections) = make sections
 
+-- the command of no words that has this name
+abbrev pub command_alone : List ℕ → Command
+command_alone name = if bytes_eq name (codes "tokens") then tokens else no_command
+
 -- the command of a directory that has this name
 abbrev pub command_on : List ℕ → List ℕ → Command
 command_on name dir = if bytes_eq name (codes "check") then check dir else no_command
@@ -80,6 +85,7 @@ command_at name dir root =
 
 -- the command that words are: its name and its words, none of which could be an option
 abbrev pub command_of : List (List ℕ) → Command
+command_of (name ∷ []) = command_alone name
 command_of (name ∷ word ∷ []) = if is_option word then no_command else command_by name word
 command_of (name ∷ dir ∷ root ∷ []) =
     if is_option dir || is_option root then no_command else command_at name dir root

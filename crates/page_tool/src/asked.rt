@@ -12,7 +12,7 @@ use clap::error::ErrorKind;
 use page_io::Memory;
 use std::alloc::Global;
 
-/// A command, with its directory and the name of its root, or with a number of sections.
+/// A command, with its directory and the name of its root, or with a number of sections, or alone.
 #[derive(Clone, Copy)]
 pub enum Asked<'a> {
     /// `check DIR`.
@@ -21,6 +21,8 @@ pub enum Asked<'a> {
     Render { dir: &'a str, root: &'a str },
     /// `explain DIR NAME`.
     Explain { dir: &'a str, root: &'a str },
+    /// `tokens`.
+    Tokens,
     /// `make N`.
     Make { sections: u32 },
 }
@@ -95,6 +97,7 @@ fn asked_with<'a>(
         ("check", Some(dir), None, None) => Some(Asked::Check { dir }),
         ("render", Some(dir), None, Some(root)) => Some(Asked::Render { dir, root }),
         ("explain", Some(dir), None, Some(root)) => Some(Asked::Explain { dir, root }),
+        ("tokens", None, None, None) => Some(Asked::Tokens),
         ("make", None, Some(number), None) => asked_to_make(number),
         _ => None,
     }

@@ -16,6 +16,7 @@ mod serve_words;
 mod set;
 mod status;
 mod stop;
+mod tokens;
 mod top;
 mod words;
 

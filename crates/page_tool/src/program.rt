@@ -3,16 +3,19 @@ ghost use Rattle.std.specs.Prelude.{◌≡◌, IfOk, false};
 ghost use Rattle.clap.specs.Words.{app_of, rule_of};
 ghost use Rattle.clap.specs.declared.builder.Command.TheViews.{out-Command as fields_of};
 ghost use Rattle.page_tool.specs.Program.{bare_app, directories_app, directory_app, program_app, root_app, sections_app, word_rule};
+ghost use Rattle.clap.specs.Simple.{new_app};
 
 use clap::{Arg, Command};
 use std::alloc::{AllocError, Global};
 
-/// The program, with a subcommand for each of its commands, whose words are `DIR` and `NAME`,
-/// or `N`.
+/// The program, with a subcommand for each of its commands, whose words are `DIR` and `NAME`, or
+/// `N`, or none.
 pub fn program<'a>(alloc: Global) -> Result<Command<'a>, AllocError>
     ensures { IfOk result (λ program. app_of program ≡ program_app) }
 {
-    on_directories(alloc)?.subcommand(on_sections(alloc, "make")?)
+    on_directories(alloc)?
+        .subcommand(alone(alloc, "tokens"))?
+        .subcommand(on_sections(alloc, "make")?)
 }
 
 // The program with the commands of directories.
@@ -36,6 +39,14 @@ fn bare<'a>(alloc: Global) -> Command<'a>
         .disable_help_subcommand(true)
         .disable_version_flag(true)
         .subcommand_required(true)
+}
+
+// A command without words.
+fn alone<'a>(alloc: Global, name: &'a str) -> Command<'a>
+    ensures app { app_of result ≡ new_app name.entry.now }
+    ensures local { (fields_of result).has_globals ≡ false }
+{
+    Command::new(alloc, name)
 }
 
 // A command of a directory.

@@ -21,6 +21,7 @@ use crate::report::say;
 use crate::serve::serve;
 use crate::serve_words::{begins_serve, read_service};
 use crate::status::Status;
+use crate::tokens::tokens;
 use page_io::{Folder, Sink, Source};
 use page_net::{Door, Net};
 use page_spawn::Spawner;
@@ -189,7 +190,7 @@ fn say_usage<E: Sink>(err: &mut E)
     say(
         err,
         "usage: check DIR | render DIR NAME | explain DIR NAME \
-        | serve DIR ADDR --workers N [--links K] | make N\n",
+        | serve DIR ADDR --workers N [--links K] | tokens | make N\n",
     );
 }
 
@@ -216,6 +217,7 @@ fn run_asked<F: Folder, I: Source, O: Sink, E: Sink>(
         Asked::Check { dir } => check(alloc, folder, out, err, dir),
         Asked::Render { dir, root } => render(alloc, folder, input, out, err, dir, root),
         Asked::Explain { dir, root } => explain(alloc, folder, out, err, dir, root),
+        Asked::Tokens => tokens(alloc, input, out, err),
         Asked::Make { sections } => make(alloc, out, err, sections),
     }
 }

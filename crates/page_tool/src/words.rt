@@ -1,22 +1,29 @@
 ghost use Rattle.std.specs.Prelude.{◌≡◌, ◌≤◌, []};
-ghost use Rattle.page_tool.specs.Words.{texts, command_at, command_by, command_of, is_command, number_up_to, sections_in, takes_digit};
+ghost use Rattle.page_tool.specs.Words.{texts, command_alone, command_at, command_by, command_of, is_command, number_up_to, sections_in, takes_digit};
 ghost use Rattle.page_tool.specs.Words as spec;
 
 /// The most sections that are made.
 const MAX_SECTIONS: u32 = 10_000;
 
-/// Whether words are a command: its name, and its directory, a root of one or a number of sections,
-/// none of which begins with `-`.
+/// Whether words are a command: its name, and no words, its directory, a root of one or a number of
+/// sections, none of which begins with `-`.
 pub fn are_command(words: &[String]) -> bool
     ensures { result ≡ is_command (command_of (texts words.now)) }
 {
     match words {
+        [name] => is_alone(name.as_str()),
         [name, word] => !is_option(word.as_str()) && takes_word(name.as_str(), word.as_str()),
         [name, dir, root] => {
             !is_option(dir.as_str()) && !is_option(root.as_str()) && takes_root(name.as_str())
         }
         _ => false,
     }
+}
+
+fn is_alone(name: &str) -> bool
+    ensures { result ≡ is_command (command_alone name.now) }
+{
+    name == "tokens"
 }
 
 fn takes_word(name: &str, word: &str) -> bool

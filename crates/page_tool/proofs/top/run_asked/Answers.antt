@@ -13,3 +13,7 @@ pub returns-in-Make-clause-runs : goal.returns-in-Make-clause-runs
 returns-in-Make-clause-runs g c =
     branch_runs _ _ _ _ _ c.in-Make.is (c.make.ensures (g.F.Folder.held c.args.folder.now) (g.F.Folder.faults c.args.folder.now)
     (g.I.Source.left c.args.input.now) (g.I.Source.faults c.args.input.now))
+
+pub returns-in-Tokens-clause-runs : goal.returns-in-Tokens-clause-runs
+returns-in-Tokens-clause-runs g c =
+    branch_runs _ _ _ _ _ c.in-Tokens.is (c.tokens.ensures (g.F.Folder.held c.args.folder.now) (g.F.Folder.faults c.args.folder.now))

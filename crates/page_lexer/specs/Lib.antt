@@ -1,0 +1,13 @@
+pub mod Characters
+pub mod Classes
+pub mod ContentStates
+pub mod Contents
+pub mod Declarations
+pub mod Markup
+pub mod Pages
+pub mod Parts
+pub mod Printing
+pub mod Reading
+pub mod Spans
+pub mod TagStates
+pub mod Tags

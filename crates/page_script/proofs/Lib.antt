@@ -1,0 +1,6 @@
+mod OneByte
+mod OpenLiterals
+mod Outside
+mod PiecesAreText
+mod SlashSteps
+mod WhiteBytes
